@@ -1,0 +1,1 @@
+-- The lemmas that the proofs of this crate share: none so far.

@@ -1,0 +1,5 @@
+pub mod Printing
+pub mod Sections
+pub mod Types
+pub mod Faults
+pub mod Tallies
