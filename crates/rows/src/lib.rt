@@ -6,6 +6,7 @@ mod tries;
 
 pub use forms::MethodForm;
 pub use forms::Row;
+pub use forms::RowPartialEq;
 pub use forms::Section;
 pub use forms::TermForm;
 pub use forms::TypeForm;
