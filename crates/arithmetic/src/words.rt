@@ -21,8 +21,8 @@ pub impl Keyword for Operation as OperationKeyword {
             Operation::Less,
             Operation::Equal,
         ]
-        .get(place)
-        .copied()
+            .get(place)
+            .copied()
     }
 
     fn is_spelled(self, field: &[u8]) -> bool {

@@ -26,11 +26,17 @@ fn into_rows(rt: &LibcRuntime, text: &[u8], room: usize) -> Result<(), AnyError>
     match answer {
         Ok(counts) => {
             let terms = counts.terms;
-            println!(rt, "{room} rows: read with {terms} terms, {stayed} rows stay")?;
+            println!(
+                rt,
+                "{room} rows: read with {terms} terms, {stayed} rows stay"
+            )?;
         }
         Err(Placed { place, fault }) => {
             let number = fault.number();
-            println!(rt, "{room} rows: refused,{number},{place}, {stayed} rows stay")?;
+            println!(
+                rt,
+                "{room} rows: refused,{number},{place}, {stayed} rows stay"
+            )?;
         }
     }
     Ok(())

@@ -1,1 +1,2 @@
--- The lemmas that the proofs of this crate share: none so far.
+-- The lemmas that the proofs of this crate and others share.
+pub mod Once

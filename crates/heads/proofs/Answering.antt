@@ -1,7 +1,6 @@
 -- The least of the faults that hold, and the one answer to a line. Assumes nothing.
 use mathlib.Core.Path.{_≡_, refl, sym, ap, _∙_}
 use mathlib.Core.Bool.{cond}
-use mathlib.Core.Logic.{⊎-elim}
 use Prim.Native.Nat.{ℕ, _<_}
 use native.Mathlib.Omega.{arith}
 use lib.Dec.{eqb}
@@ -11,7 +10,7 @@ use Rattle.faults.specs.declared.TextFault.the-variants.{Form, Number, Order, R
 use Rattle.faults.specs.declared.PlayFault.{PlayFault}
 use Rattle.faults.specs.declared.PlayFault.the-variants.{Text, Bounds, Settings}
 use Rattle.faults.specs.Numbers.{play-number}
-use Rattle.std.proofs.shelf.Tests.{cases-order}
+use Rattle.faults.proofs.Once.{least-once}
 use Rattle.heads.specs.Lines.{Least, Answers, Only}
 
 -- the fault of a number
@@ -63,16 +62,12 @@ least-number holds h formed = record { here = h; none-smaller = below }
     below Bounds less k = omega arith
     below Settings less k = omega arith
 
--- one fault at most is the least
-least-once : (holds : PlayFault → Type 0) (f g : PlayFault) → Least holds f → Least holds g → f ≡ g
-least-once holds f g h k =
-    ⊎-elim (λ same. sym (numbered f) ∙ ap fault-of same ∙ numbered g)
-    (⊎-elim (λ less. absurd (k .none-smaller f less (h .here))) (λ more. absurd (h .none-smaller g more (k .here))))
-    (cases-order (play-number f) (play-number g))
+same-number : (f g : PlayFault) → play-number f ≡ play-number g → f ≡ g
+same-number f g same = sym (numbered f) ∙ ap fault-of same ∙ numbered g
 
 -- there is one answer at most, where a line grants one value at most, and none if a fault holds
 pub one-answer : {Y : Type 0} (grants : Y → Type 0) (holds : PlayFault → Type 0) → ((y z : Y) → grants y → grants z → y ≡ z) → ((y : Y) (f : PlayFault) → grants y → holds f → ⊥) → (r : Result Y PlayFault) → Answers grants holds r → Only (Answers grants holds) r
 one-answer grants holds once none (Ok y) h (Ok z) k = ap Ok (once z y k h)
 one-answer grants holds once none (Ok y) h (Err f) k = absurd (none y f h (k .here))
 one-answer grants holds once none (Err f) h (Ok z) k = absurd (none z f k (h .here))
-one-answer grants holds once none (Err f) h (Err g) k = ap Err (least-once holds g f k h)
+one-answer grants holds once none (Err f) h (Err g) k = ap Err (least-once play-number same-number holds g f k h)

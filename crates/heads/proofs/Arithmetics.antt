@@ -34,9 +34,11 @@ use Rattle.heads.specs.declared.settings.Settings.{Settings}
 use Rattle.heads.specs.declared.settings.Settings.the-variants.{Word as Word-numbers, Counter as Counter-numbers}
 use Rattle.heads.specs.Words.{arithmetic-word, kind-word, kind-table}
 use Rattle.heads.specs.Fields.{after-word, both-words, two-words, with-number, word-of-range, counter-of-range, settings-by, settings-after, settings-in, settings-formed-by, settings-formed-after, settings-formed}
-use Rattle.heads.specs.Lines.{Spells, Spells-within, Least, Only}
+use Rattle.heads.specs.Lines.{Spells-within, Least, Only}
+use Rattle.text.specs.Lines.{Spells}
 use Rattle.heads.specs.Arithmetics.{settings-slots, Settings-within-limits, settings-of, Made, Arithmetic-line-fault, Arithmetic-answer}
-use Rattle.heads.proofs.Lines.{Reading, words-free, false-true, fits-length, word-first, free-fits, after-found, formed-line, spells-read, spells-once, text-faultless, feed-unformed, fields-unformed, spells-none, same-made}
+use Rattle.heads.proofs.Lines.{Reading, false-true, free-fits, after-found, formed-line, spells-read, spells-once, text-faultless, feed-unformed, fields-unformed, spells-none, same-made}
+use Rattle.text.proofs.Forms.{words-free, fits-length, word-first}
 use Rattle.heads.proofs.Answering.{least-form, least-number, one-answer}
 
 -- the fields of settings spell them

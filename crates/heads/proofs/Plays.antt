@@ -25,9 +25,11 @@ use Rattle.text.proofs.Laws.{none-some, three-written, three-exact}
 use Rattle.heads.specs.declared.settings.PlayNumbers.{PlayNumbers}
 use Rattle.heads.specs.Words.{play-word}
 use Rattle.heads.specs.Fields.{after-word, play-of, play-after, play-in, play-formed-after, play-formed}
-use Rattle.heads.specs.Lines.{Spells, Spells-within, Least, Only}
+use Rattle.heads.specs.Lines.{Spells-within, Least, Only}
+use Rattle.text.specs.Lines.{Spells}
 use Rattle.heads.specs.Plays.{play-slots, Numbers-within-limits, numbers-of, Play-line-fault, Play-answer}
-use Rattle.heads.proofs.Lines.{Reading, false-true, fits-length, word-first, free-fits, after-found, formed-line, spells-read, spells-once, text-faultless, feed-unformed, fields-unformed, spells-none, same-made}
+use Rattle.heads.proofs.Lines.{Reading, false-true, free-fits, after-found, formed-line, spells-read, spells-once, text-faultless, feed-unformed, fields-unformed, spells-none, same-made}
+use Rattle.text.proofs.Forms.{fits-length, word-first}
 use Rattle.heads.proofs.Answering.{least-form, least-number, one-answer}
 
 -- the fields of numbers spell them

@@ -3,19 +3,15 @@
 use mathlib.Core.Path.{_≡_}
 use mathlib.Core.List.{List}
 use Prim.Native.Nat.{ℕ, _<_}
-use Rattle.std.specs.shelf.Lists.{All}
 use Rattle.std.specs.declared.result.Result.{Result}
 use Rattle.std.specs.declared.result.Result.the-variants.{Ok, Err}
 use Rattle.faults.specs.declared.TextFault.{TextFault}
 use Rattle.faults.specs.declared.TextFault.the-variants.{Form, Number, Order, Reference, Limit, Repeat}
 use Rattle.faults.specs.declared.PlayFault.{PlayFault}
+use Rattle.faults.specs.Least.{Least-of}
 use Rattle.faults.specs.Numbers.{play-number}
-use Rattle.text.specs.Slots.{Slot, In-range, Fits, line-of, printed}
-
--- a line spells a thing where it is the thing's printing, and the thing's numbers are in range
-pub record Spells {X : Type 0} (slots : X → List Slot) (line : List ℕ) (x : X) : Type 0 where
-  pub in-range : All In-range (slots x)
-  pub printing : line ≡ printed (slots x)
+use Rattle.text.specs.Slots.{Slot}
+use Rattle.text.specs.Lines.{Formed, Spells}
 
 -- a line spells a thing that is within its limits
 pub record Spells-within {X : Type 0} (slots : X → List Slot) (Within : X → Type 0) (line : List ℕ) (x : X) : Type 0 where
@@ -23,14 +19,9 @@ pub record Spells-within {X : Type 0} (slots : X → List Slot) (Within : X → 
   pub within : Within x
 
 module _ {X : Type 0} (slots : X → List Slot) where
-  -- a line has a form where it is the printing of some thing, with any bytes free of commas and line
-  -- feeds in the place of its numbers
-  abbrev pub Formed : List ℕ → Type 0
-  Formed line = (x : X) × (fields : List (List ℕ)) × Fits (slots x) fields × (line ≡ line-of fields)
-
   -- a fault holds of the text of a line
   abbrev pub Text-fault : List ℕ → TextFault → Type 0
-  Text-fault line Form = Formed line → ⊥
+  Text-fault line Form = Formed slots line → ⊥
   Text-fault line Number = (x : X) → Spells slots line x → ⊥
   Text-fault line Order = ⊥
   Text-fault line Reference = ⊥
@@ -42,9 +33,8 @@ module _ {X : Type 0} (slots : X → List Slot) where
   Spells-outside Within line = (x : X) × Spells slots line x × (Within x → ⊥)
 
 -- a fault holds, and none of a smaller number does
-pub record Least (holds : PlayFault → Type 0) (fault : PlayFault) : Type 0 where
-  pub here : holds fault
-  pub none-smaller : (other : PlayFault) → play-number other < play-number fault → holds other → ⊥
+abbrev pub Least : (PlayFault → Type 0) → PlayFault → Type 0
+Least holds fault = Least-of play-number holds fault
 
 -- the answer to a line: a value that may be granted, or the least of the faults that hold
 abbrev pub Answers : {Y : Type 0} → (Y → Type 0) → (PlayFault → Type 0) → Result Y PlayFault → Type 0

@@ -21,6 +21,7 @@ use Rattle.arithmetic.specs.declared.Operation.the-variants.{Add, Sub, Mul, Les
 use Rattle.arithmetic.specs.Words.{operation-word, operation-table}
 use Rattle.text.specs.Slots.{Slot, literal, number, word, written, In-range, Free, Takes, Fits}
 use Rattle.text.specs.Reading.{keyword-of, number-of, word-of, one-number, two-numbers, three-numbers}
+use Rattle.text.proofs.Forms.{fits-length, word-first}
 use Rattle.text.proofs.Laws.{none-some, number-written, word-written, word-exact, number-exact, one-exact, two-exact, three-exact, keyword-found}
 use Rattle.rows.specs.declared.forms.TypeForm.{TypeForm}
 use Rattle.rows.specs.declared.forms.TypeForm.the-variants.{Unit as UnitType, Int as IntType, Pair as PairType, Fun as FunType}
@@ -47,17 +48,7 @@ use Rattle.reader.specs.Fields.{of-two, of-three, at-end, one-word, type-parts
 false-true : false ≡ true → ⊥
 false-true e = let z : _≡_ {A = ℕ} 0 1 = cc in omega arith
 
-fits-length : (ss : List Slot) (fs : List (List ℕ)) → Fits ss fs → length fs ≡ length ss
-fits-length [] [] h = refl
-fits-length [] (f ∷ fs) h = absurd h
-fits-length (s ∷ ss) [] h = absurd h
-fits-length (s ∷ ss) (f ∷ fs) h = ap suc (fits-length ss fs (h .1))
-
--- the first field of a form, and those after it
-word-first : (w : List ℕ) (ss : List Slot) (gs : List (List ℕ)) → Fits (literal w ∷ ss) gs → (hs : List (List ℕ)) × (gs ≡ w ∷ hs) × Fits ss hs
-word-first w ss [] h = absurd h
-word-first w ss (g ∷ gs) h = (gs, ap (λ v. v ∷ gs) (h .0), h .1)
-
+-- the first field of slots that begin with a number, and the fields after it
 number-first : (n : ℕ) (ss : List Slot) (gs : List (List ℕ)) → Fits (number n ∷ ss) gs → (f : List ℕ) × (hs : List (List ℕ)) × (gs ≡ f ∷ hs) × Fits ss hs
 number-first n ss [] h = absurd h
 number-first n ss (g ∷ gs) h = (g, gs, refl, h .1)

@@ -24,7 +24,8 @@ use Rattle.arithmetic.specs.declared.Operation.{Operation}
 use Rattle.arithmetic.specs.declared.Operation.the-variants.{Add, Sub, Mul, Less, Equal}
 use Rattle.text.specs.Slots.{Slot, literal, number, word, written, In-range, Lacks, Free, Fits, commas, line-of}
 use Rattle.text.specs.Reading.{cut}
-use Rattle.text.proofs.Laws.{none-some, commas-cut, cut-commas, cut-free, written-free}
+use Rattle.text.proofs.Laws.{none-some, commas-cut, cut-free}
+use Rattle.text.proofs.Forms.{words-free, written-all-free, fits-free, written-fits, commas-lack, cut-fields}
 use Rattle.rows.specs.declared.forms.TypeForm.the-variants.{Unit as UnitType, Int as IntType, Pair as PairType, Fun as FunType}
 use Rattle.rows.specs.declared.forms.MethodForm.the-variants.{Abstract as AbstractMethod, Public as PublicMethod, Private as PrivateMethod}
 use Rattle.rows.specs.declared.forms.TermForm.the-variants.{Unit as UnitTerm, Num as NumTerm, Var as VarTerm, Meth as MethTerm, Get as GetTerm, Lam as LamTerm, Set as SetTerm, Op as OpTerm, Pair as PairTerm, Fst as FstTerm, Snd as SndTerm, App as AppTerm, If as IfTerm, Let as LetTerm, Assert as AssertTerm}
@@ -37,43 +38,7 @@ use Rattle.reader.specs.Text.{Formed, Spells, Line-fault}
 use Rattle.reader.proofs.Spelling.{row-written, row-exact}
 use Rattle.reader.proofs.Forming.{row-fits, row-form}
 
--- whether the bytes are free of commas and line feeds
-abbrev free-test : List ℕ → Bool
-free-test [] = true
-free-test (b ∷ bs) = not (eqb b 44) && (not (eqb b 10) && free-test bs)
-
-not-equal : (a b : ℕ) → not (eqb a b) ≡ true → a ≡ b → ⊥
-not-equal a b e same = let z : not (eqb a b) ≡ false = rw (eq-eqb a b same) in both-ways _ z e
-
-free-by-test : (bs : List ℕ) → free-test bs ≡ true → Free bs
-free-by-test [] e = (tt, tt)
-free-by-test (b ∷ bs) e =
-    let p = and-parts (not (eqb b 44)) (not (eqb b 10) && free-test bs) e in
-    let q = and-parts (not (eqb b 10)) (free-test bs) (p .1) in
-    let r = free-by-test bs (q .1) in
-    ((not-equal b 44 (p .0), r .0), (not-equal b 10 (q .0), r .1))
-
--- whether the words among the slots are free
-abbrev words-free : List Slot → Bool
-words-free [] = true
-words-free (literal w ∷ ss) = free-test w && words-free ss
-words-free (number n ∷ ss) = words-free ss
-words-free (word z ∷ ss) = words-free ss
-
-written-all-free : (ss : List Slot) → words-free ss ≡ true → All In-range ss → All Free (map written ss)
-written-all-free [] e h = tt
-written-all-free (literal w ∷ ss) e h = let p = and-parts (free-test w) (words-free ss) e in (free-by-test w (p .0), written-all-free ss (p .1) (h .1))
-written-all-free (number n ∷ ss) e h = (written-free (number n) (h .0) (λ bs same. let z : _≡_ {A = ℕ} 0 1 = cc in absurd (omega arith)), written-all-free ss e (h .1))
-written-all-free (word z ∷ ss) e h = (written-free (word z) (h .0) (λ bs same. let z : _≡_ {A = ℕ} 0 1 = cc in absurd (omega arith)), written-all-free ss e (h .1))
-
-fits-free : (ss : List Slot) (fs : List (List ℕ)) → words-free ss ≡ true → Fits ss fs → All Free fs
-fits-free [] [] e h = tt
-fits-free [] (f ∷ fs) e h = absurd h
-fits-free (s ∷ ss) [] e h = absurd h
-fits-free (literal w ∷ ss) (f ∷ fs) e h = let p = and-parts (free-test w) (words-free ss) e in (subst Free (sym (h .0)) (free-by-test w (p .0)), fits-free ss fs (p .1) (h .1))
-fits-free (number n ∷ ss) (f ∷ fs) e h = (h .0, fits-free ss fs e (h .1))
-fits-free (word z ∷ ss) (f ∷ fs) e h = (h .0, fits-free ss fs e (h .1))
-
+-- the words of a row's line are free
 slots-free : (row : Row) → words-free (slots row) ≡ true
 slots-free (TypeRow n UnitType) = refl
 slots-free (TypeRow n IntType) = refl
@@ -118,10 +83,6 @@ fits-some (VariableRow n t) fs h same = subst (Fits (slots (VariableRow n t))) s
 fits-some (MethodRow n f) fs h same = subst (Fits (slots (MethodRow n f))) same h
 fits-some (GlobalRow n t e) fs h same = subst (Fits (slots (GlobalRow n t e))) same h
 fits-some (TermRow n f) fs h same = subst (Fits (slots (TermRow n f))) same h
-
-cut-fields : (fs : List (List ℕ)) → All Free fs → (fs ≡ [] → ⊥) → cut (commas fs) ≡ fs
-cut-fields [] free some = absurd (some refl)
-cut-fields (f ∷ fs) free some = cut-commas f fs free
 
 -- the fields of a line that has no line feed but its last byte
 module _ (body : List ℕ) (lacks : Lacks 10 body) where
@@ -226,17 +187,6 @@ in-range-told (literal w ∷ ss) h = (tt, in-range-told ss (λ k. h (λ a. k (a 
 in-range-told (number n ∷ ss) h = (⊎-elim (λ lt. absurd (h (λ a. let small = a .0 in omega arith))) (λ le. le) (order 65535 n), in-range-told ss (λ k. h (λ a. k (a .1))))
 in-range-told (word z ∷ ss) h = (⊎-elim (λ lt. record { sfits = lt }) (λ le. absurd (h (λ a. let small = a .0 .sfits in omega arith))) (order (mag z) (2 ^ 31)), in-range-told ss (λ k. h (λ a. k (a .1))))
 
-commas-lacks : (fs : List (List ℕ)) → All Free fs → Lacks 10 (commas fs)
-commas-lacks [] h = tt
-commas-lacks (f ∷ []) h = h .0 .1
-commas-lacks (f ∷ g ∷ fs) h = all-append _ f (44 ∷ commas (g ∷ fs)) (h .0 .1) ((λ same. omega arith), commas-lacks (g ∷ fs) (h .1))
-
-fits-written : (ss : List Slot) → All Free (map written ss) → Fits ss (map written ss)
-fits-written [] h = tt
-fits-written (literal w ∷ ss) h = (refl, fits-written ss (h .1))
-fits-written (number n ∷ ss) h = (h .0, fits-written ss (h .1))
-fits-written (word z ∷ ss) h = (h .0, fits-written ss (h .1))
-
 -- the line of a row without fault
 module _ {before : List Row} (row : Row) (good : None-of (Row-fault true before row)) where
   in-range : Numbers-in-range row
@@ -246,7 +196,7 @@ module _ {before : List Row} (row : Row) (good : None-of (Row-fault true before 
   fields-free = written-all-free (slots row) (slots-free row) in-range
 
   body-lacks : Lacks 10 (commas (map written (slots row)))
-  body-lacks = commas-lacks (map written (slots row)) fields-free
+  body-lacks = commas-lack (map written (slots row)) fields-free
 
   pub line-body : (body : List ℕ) × (row-line row ≡ body ++ (10 ∷ [])) × Lacks 10 body
   line-body = (commas (map written (slots row)), refl, body-lacks)
@@ -258,7 +208,7 @@ module _ {before : List Row} (row : Row) (good : None-of (Row-fault true before 
   no-line-fault fault f =
       let body = commas (map written (slots row)) in
       let lacks = body-lacks in
-      good fault (of-row body lacks true before (row, map written (slots row), fits-written (slots row) fields-free, refl) row (row-fields body lacks row spells-itself) fault f)
+      good fault (of-row body lacks true before (row, map written (slots row), written-fits (slots row) in-range, refl) row (row-fields body lacks row spells-itself) fault f)
 
 pub spells-one : {before : List Row} (row other : Row) → None-of (Row-fault true before row) → None-of (Row-fault true before other) → row-line row ≡ row-line other → other ≡ row
 spells-one row other good fine same =

@@ -13,11 +13,11 @@ use Rattle.std.specs.declared.option.Option.the-variants.{None, Some}
 use Rattle.std.specs.declared.result.Result.{Result}
 use Rattle.std.specs.declared.result.Result.the-variants.{Ok, Err}
 use Rattle.std.proofs.shelf.Lists.{take-append-le, take-all, getD-at}
-use Rattle.std.proofs.str.Laws.{order}
 use Rattle.faults.specs.declared.Placed.{Placed}
 use Rattle.faults.specs.declared.TextFault.{TextFault}
 use Rattle.faults.specs.declared.TextFault.the-variants.{Form, Number, Order, Reference, Limit, Repeat}
 use Rattle.faults.specs.Numbers.{text-number}
+use Rattle.faults.proofs.Once.{least-once}
 use Rattle.text.specs.Slots.{Lacks, written, commas}
 use Rattle.text.proofs.Laws.{none-some}
 use Rattle.rows.specs.declared.forms.Row.{Row}
@@ -68,12 +68,6 @@ same-fault Repeat Order e = absurd (omega arith)
 same-fault Repeat Reference e = absurd (omega arith)
 same-fault Repeat Limit e = absurd (omega arith)
 same-fault Repeat Repeat e = refl
-
-least-same : (holds : TextFault → Type 0) (f g : TextFault) → Least holds f → Least holds g → f ≡ g
-least-same holds f g a b =
-    ⊎-elim (λ lt. absurd (b .none-smaller f lt (a .here)))
-    (λ le. ⊎-elim (λ lt. absurd (a .none-smaller g lt (b .here))) (λ ge. same-fault f g (omega arith)) (order (text-number g) (text-number f)))
-    (order (text-number f) (text-number g))
 
 -- bytes up to the first line feed
 pub first-feed : (xs ys t u : List ℕ) → Lacks 10 xs → Lacks 10 ys → xs ++ (10 ∷ t) ≡ ys ++ (10 ∷ u) → (xs ≡ ys) × (t ≡ u)
@@ -165,7 +159,7 @@ one-stop room b [] [] t u None (Some f) g k e h j = absurd (first-some (j .0) (j
 one-stop room b [] [] t u (Some f) None g k e h j = absurd (first-some (h .0) (h .1) (subst (λ x. First-line x (h .0) (h .1)) (e ∙ j .0) (h .2)))
 one-stop room b [] [] t u (Some f) (Some x) g k e h j =
     let line = first-same u (h .0) (h .1) (j .0) (j .1) (subst (λ v. First-line v (h .0) (h .1)) e (h .2)) (j .2) in
-    (ap Some (least-same (Line-fault (ltb (length (b ++ [])) room) (b ++ []) (j .0)) f x (subst (λ l. Least (Line-fault (ltb (length (b ++ [])) room) (b ++ []) l) f) line (h .3)) (j .3)), refl)
+    (ap Some (least-once text-number same-fault (Line-fault (ltb (length (b ++ [])) room) (b ++ []) (j .0)) f x (subst (λ l. Least (Line-fault (ltb (length (b ++ [])) room) (b ++ []) l) f) line (h .3)) (j .3)), refl)
 one-stop room b [] (r ∷ ss) t u o p g k e h j =
     absurd (passes room b r ss (row-lines ss ++ u) o (k .0) (stops-room room (b ++ (r ∷ ss)) u p j) (subst (λ x. Stops room x (row-line r ++ (row-lines ss ++ u)) o) (append-nil b) (subst (λ x. Stops room (b ++ []) x o) (e ∙ append-assoc (row-line r) (row-lines ss) u) h)))
 one-stop room b (r ∷ rs) [] t u o p g k e h j =

@@ -12,7 +12,8 @@ use Rattle.std.specs.declared.result.Result.the-variants.{Ok, Err}
 use Rattle.faults.specs.declared.Placed.{Placed}
 use Rattle.faults.specs.declared.TextFault.{TextFault}
 use Rattle.faults.specs.declared.TextFault.the-variants.{Form, Number, Order, Reference, Limit, Repeat}
-use Rattle.text.specs.Slots.{Fits, Lacks, line-of}
+use Rattle.text.specs.Slots.{Lacks}
+use Rattle.text.specs.Lines.{Formed as Formed-by, Spells as Spells-by}
 use Rattle.rows.specs.declared.forms.Row.{Row}
 use Rattle.rows.specs.declared.tally.Counts.{Counts}
 use Rattle.rows.specs.Printing.{slots, row-line, row-lines}
@@ -21,12 +22,11 @@ use Rattle.rows.specs.Tallies.{Counts-of}
 
 -- a line has a form where it is the printing of some row, with any comma-free bytes in the place of its numbers
 abbrev pub Formed : List ℕ → Type 0
-Formed line = (row : Row) × (fields : List (List ℕ)) × Fits (slots row) fields × (line ≡ line-of fields)
+Formed line = Formed-by slots line
 
 -- a line spells a row where it is the row's printing, and the row's numbers are in range
-pub record Spells (line : List ℕ) (row : Row) : Type 0 where
-  pub in-range : Numbers-in-range row
-  pub printing : line ≡ row-line row
+abbrev pub Spells : List ℕ → Row → Type 0
+Spells line row = Spells-by slots line row
 
 -- the row that a line spells has a fault after the rows before
 abbrev pub Spelled-fault : List Row → List ℕ → TextFault → Type 0

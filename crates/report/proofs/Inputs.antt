@@ -75,28 +75,28 @@ module _ {Value : Type 0} (line-answer : List ℕ → Result Value PlayFault →
         ⊎-elim (λ h. absurd (no-missing (h .0)))
         (⊎-elim (λ h. absurd (no-unended (h .1)))
         (⊎-elim
-            (λ h.
-                let lines = same-cut (h .0) (h .1) line rest (h .3) cut .0 in
-                let same = only (Err (h .2)) (subst (λ l. line-answer (l ++ (10 ∷ [])) (Err (h .2))) lines (h .4)) in
-                let one : h .2 ≡ fault = cc in
-                h .5 ∙ ap (refused-at place) one)
-            (λ h.
-                let lines = same-cut (h .0) (h .1) line rest (h .3) cut .0 in
-                let same = only (Ok (h .2)) (subst (λ l. line-answer (l ++ (10 ∷ [])) (Ok (h .2))) lines (h .4)) in
-                let z : _≡_ {A = ℕ} 0 1 = cc in
-                absurd (omega arith))))
+        (λ h.
+        let lines = same-cut (h .0) (h .1) line rest (h .3) cut .0 in
+        let same = only (Err (h .2)) (subst (λ l. line-answer (l ++ (10 ∷ [])) (Err (h .2))) lines (h .4)) in
+        let one : h .2 ≡ fault = cc in
+        h .5 ∙ ap (refused-at place) one)
+        (λ h.
+        let lines = same-cut (h .0) (h .1) line rest (h .3) cut .0 in
+        let same = only (Ok (h .2)) (subst (λ l. line-answer (l ++ (10 ∷ [])) (Ok (h .2))) lines (h .4)) in
+        let z : _≡_ {A = ℕ} 0 1 = cc in
+        absurd (omega arith))))
 
     pub only-taken : (value : Value) (answer : Answer) → heads.Only (line-answer (line ++ (10 ∷ []))) (Ok value) → Only (after rest) answer → Only (Head-answer line-answer place after text) answer
     only-taken value answer only next other =
         ⊎-elim (λ h. absurd (no-missing (h .0)))
         (⊎-elim (λ h. absurd (no-unended (h .1)))
         (⊎-elim
-            (λ h.
-                let lines = same-cut (h .0) (h .1) line rest (h .3) cut .0 in
-                let same = only (Err (h .2)) (subst (λ l. line-answer (l ++ (10 ∷ [])) (Err (h .2))) lines (h .4)) in
-                let z : _≡_ {A = ℕ} 0 1 = cc in
-                absurd (omega arith))
-            (λ h. next other (subst (λ r. after r other) (same-cut (h .0) (h .1) line rest (h .3) cut .1) (h .5)))))
+        (λ h.
+        let lines = same-cut (h .0) (h .1) line rest (h .3) cut .0 in
+        let same = only (Err (h .2)) (subst (λ l. line-answer (l ++ (10 ∷ [])) (Err (h .2))) lines (h .4)) in
+        let z : _≡_ {A = ℕ} 0 1 = cc in
+        absurd (omega arith))
+        (λ h. next other (subst (λ r. after r other) (same-cut (h .0) (h .1) line rest (h .3) cut .1) (h .5)))))
 
 empty-list : (bs : List ℕ) → length bs ≡ 0 → bs ≡ []
 empty-list [] e = refl

@@ -28,7 +28,10 @@ fn read_line(heap: Global, counts: Counts) -> Result<String, AllocError>
     let methods = counts.methods;
     let globals = counts.globals;
     let terms = counts.terms;
-    format!(heap, "read,{types},{variables},{methods},{globals},{terms}\n")
+    format!(
+        heap,
+        "read,{types},{variables},{methods},{globals},{terms}\n"
+    )
 }
 
 // The line of a refusal: the number of the fault, and its line.

@@ -8,6 +8,7 @@ use lib.ListN.{length, getD, take}
 use Rattle.std.specs.shelf.Lists.{All}
 use Rattle.faults.specs.declared.TextFault.{TextFault}
 use Rattle.faults.specs.declared.TextFault.the-variants.{Form, Number, Order, Reference, Limit, Repeat}
+use Rattle.faults.specs.Least.{Least-of}
 use Rattle.faults.specs.Numbers.{text-number}
 use Rattle.text.specs.Slots.{In-range}
 use Rattle.rows.specs.declared.forms.TypeForm.{TypeForm}
@@ -65,9 +66,8 @@ Row-fault room before row Limit = (Within-limits before row → ⊥) ⊎ (room �
 Row-fault room before row Repeat = Listed-before before row
 
 -- a fault holds, and none of a smaller number does
-pub record Least (holds : TextFault → Type 0) (fault : TextFault) : Type 0 where
-  pub here : holds fault
-  pub none-smaller : (other : TextFault) → text-number other < text-number fault → holds other → ⊥
+abbrev pub Least : (TextFault → Type 0) → TextFault → Type 0
+Least holds fault = Least-of text-number holds fault
 
 -- no fault holds
 abbrev pub None-of : (TextFault → Type 0) → Type 0

@@ -2,3 +2,4 @@
 pub mod Slots
 pub mod Reading
 pub mod Remaining
+pub mod Lines
