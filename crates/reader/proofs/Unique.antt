@@ -6,7 +6,7 @@ use mathlib.Core.List.{List, [], _∷_, _++_, map, append-assoc, append-nil}
 use Prim.Native.Nat.{ℕ, suc, _+_, _≤_, _<_}
 use native.Mathlib.Omega.{arith}
 use lib.Dec.{ltb}
-use lib.ListN.{length, getD, take, length-append}
+use lib.ListN.{length, getD, take, drop, length-append}
 use borrow.Author.Tests.{lt-ltb}
 use Rattle.std.specs.declared.option.Option.{Option}
 use Rattle.std.specs.declared.option.Option.the-variants.{None, Some}
@@ -197,13 +197,13 @@ granted-stops room text rows g = ((refl, g .fits), good-from [] rows (g .faultle
 refused-stops : (room : ℕ) (text : List ℕ) (rows : List Row) (fault : TextFault) (r : Refused-after room text rows fault) → Stops room ([] ++ rows) (r .rest) (Some fault) × Each-good [] rows × (row-lines rows ++ r .rest ≡ text)
 refused-stops room text rows fault r = ((r .line, r .later, r .next-line, r .least, r .fits), good-from [] rows (r .faultless), sym (r .printing))
 
--- a text has one answer
-pub one-answer : (room : ℕ) (text : List ℕ) (a b : Result Counts (Placed TextFault)) (rs ss : List Row) → Reads room text a rs → Reads room text b ss → a ≡ b
+-- a text has one answer, and one list of rows that are filled
+pub one-answer : (room : ℕ) (text : List ℕ) (a b : Result Counts (Placed TextFault)) (rs ss : List Row) → Reads room text a rs → Reads room text b ss → (a ≡ b) × (rs ≡ ss)
 one-answer room text (Ok c) (Ok d) rs ss h k =
     let x = granted-stops room text rs (h .0) in
     let y = granted-stops room text ss (k .0) in
     let same = one-stop room [] rs ss [] [] None None (x .1) (y .1) (x .2 ∙ sym (y .2)) (x .0) (y .0) in
-    ap Ok (counts-same rs c d (h .1) (subst (λ r. Counts-of r d) (sym (same .1)) (k .1)))
+    (ap Ok (counts-same rs c d (h .1) (subst (λ r. Counts-of r d) (sym (same .1)) (k .1))), same .1)
 one-answer room text (Ok c) (Err p) rs ss h k =
     let x = granted-stops room text rs (h .0) in
     ⊎-elim
@@ -231,8 +231,14 @@ one-answer room text (Err p) (Err q) rs ss h k =
     let y = refused-stops room text ss (q .fault) (s .0) in
     let same = one-stop room [] rs ss (r .0 .rest) (s .0 .rest) (Some (p .fault)) (Some (q .fault)) (x .1) (y .1) (x .2 ∙ sym (y .2)) (x .0) (y .0) in
     let fault : p .fault ≡ q .fault = let e = same .0 in cc in
-    ap Err (placed-same p q (r .1 ∙ ap (λ l. length l + 1) (same .1) ∙ sym (s .1)) fault))
+    (ap Err (placed-same p q (r .1 ∙ ap (λ l. length l + 1) (same .1) ∙ sym (s .1)) fault), same .1))
     (λ s. let short = r .0 .short in absurd (omega (arith, s .0)))
     k)
-    (λ r. ⊎-elim (λ s. let short = s .0 .short in absurd (omega (arith, r .0))) (λ s. ap Err (r .1 ∙ sym (s .1))) k)
+    (λ r. ⊎-elim (λ s. let short = s .0 .short in absurd (omega (arith, r .0))) (λ s. (ap Err (r .1 ∙ sym (s .1)), r .2 ∙ sym (s .2))) k)
     h
+
+-- what is told of the answer and the rows holds of every answer that a text has
+pub told-of-every : (room : ℕ) (text : List ℕ) (a : Result Counts (Placed TextFault)) (rs old rows : List Row) → Reads room text a rs → rows ≡ rs ++ drop (length rs) old → (answer : Result Counts (Placed TextFault)) (filled : List Row) → Reads room text answer filled → (answer ≡ a) × (rows ≡ filled ++ drop (length filled) old)
+told-of-every room text a rs old rows h is answer filled k =
+    let same = one-answer room text answer a filled rs k h in
+    (same .0, is ∙ ap (λ l. l ++ drop (length l) old) (sym (same .1)))

@@ -26,7 +26,7 @@ const MOST_BYTES: usize = 32768;
 /// at fault is told with the least of its faults. The rows of the lines before it are filled, and every other row stays.
 pub fn read(text: &[u8], rows: &mut [Row]) -> Result<Counts, Placed<TextFault>>
     ensures answer_and_rows { λ r. ⌜ ((filled : List Row) × Reads (length (now (rows .entry))) (now (text .entry)) r filled × (now (rows .exit) ≡ filled ++ drop (length filled) (now (rows .entry)))) ⌝ }
-    ensures no_other_answer { λ r. ⌜ ((answer : Result Counts (Placed TextFault)) (filled : List Row) → Reads (length (now (rows .entry))) (now (text .entry)) answer filled → answer ≡ r) ⌝ }
+    ensures no_other_answer { λ r. ⌜ ((answer : Result Counts (Placed TextFault)) (filled : List Row) → Reads (length (now (rows .entry))) (now (text .entry)) answer filled → (answer ≡ r) × (now (rows .exit) ≡ filled ++ drop (length filled) (now (rows .entry)))) ⌝ }
 {
     if text.len() > MOST_BYTES {
         return Err(Placed {

@@ -24,19 +24,19 @@ use Rattle.report.specs.Input.{Answer, First-cut, Head-answer, Library-answer,
 module _ (text : List ℕ) where
   pub only-counts : (counts : Counts) (rows : List Row) → Reads most-rows text (Ok counts) rows → Only (Library-answer text) (Ok counts)
   only-counts counts rows h (Ok other) k =
-      let same = one-answer most-rows text (Ok other) (Ok counts) (k .0) rows (k .1) h in
+      let same = one-answer most-rows text (Ok other) (Ok counts) (k .0) rows (k .1) h .0 in
       let one : other ≡ counts = cc in
       ap Ok one
   only-counts counts rows h (Err placed) k =
-      let same = one-answer most-rows text (Err (k .0)) (Ok counts) (k .1) rows (k .2) h in
+      let same = one-answer most-rows text (Err (k .0)) (Ok counts) (k .1) rows (k .2) h .0 in
       let z : _≡_ {A = ℕ} 0 1 = cc in absurd (omega arith)
 
   pub only-found : (found : Placed TextFault) (rows : List Row) → Reads most-rows text (Err found) rows → Only (Library-answer text) (Err (in-input found))
   only-found found rows h (Ok other) k =
-      let same = one-answer most-rows text (Ok other) (Err found) (k .0) rows (k .1) h in
+      let same = one-answer most-rows text (Ok other) (Err found) (k .0) rows (k .1) h .0 in
       let z : _≡_ {A = ℕ} 0 1 = cc in absurd (omega arith)
   only-found found rows h (Err placed) k =
-      let same = one-answer most-rows text (Err (k .0)) (Err found) (k .1) rows (k .2) h in
+      let same = one-answer most-rows text (Err (k .0)) (Err found) (k .1) rows (k .2) h .0 in
       let one : k .0 ≡ found = cc in
       ap Err (k .3 ∙ ap in-input one)
 

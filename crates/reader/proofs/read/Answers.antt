@@ -13,7 +13,7 @@ use Rattle.reader.specs.Text.{First-line, Line-fault, Reads, Spells, most-byte
 use Rattle.text.specs.Slots.{Lacks}
 use Rattle.reader.proofs.Lines.{unended-least}
 use Rattle.reader.proofs.Progress.{inside, shorter, one-more, all-rows, refused, granted}
-use Rattle.reader.proofs.Unique.{one-answer}
+use Rattle.reader.proofs.Unique.{told-of-every}
 use Rattle.reader.proofs.read.Needs as need
 
 -- a part from the start, as the code takes it
@@ -34,7 +34,7 @@ returns-in-rest c =
     let told = refused _ _ _ _ _ _ _ h (c .if-text-gt-MOST-BYTES .left) rest [] first _ (unended-least _ _ rest lacks) in
     record {
       answer-and-rows = (take (c .loop-rest .count) (c .loop-rest .rows), told, all-rows _ _ _ _ _ _ _ h);
-      no-other-answer = λ answer filled r. one-answer _ _ answer _ filled _ r told;
+      no-other-answer = told-of-every _ _ _ _ _ _ told (all-rows _ _ _ _ _ _ _ h);
     }
 
 pub index-rows-count : need.index-rows-count
@@ -52,7 +52,7 @@ returns-in-Err c =
     let told = refused _ _ _ _ _ _ _ h (c .if-text-gt-MOST-BYTES .left) line _ (cut-line _ _ _ (parts .0) (parts .1)) _ least in
     record {
       answer-and-rows = (take (c .loop-rest .count) (c .loop-rest .rows), told, all-rows _ _ _ _ _ _ _ h);
-      no-other-answer = λ answer filled r. one-answer _ _ answer _ filled _ r told;
+      no-other-answer = told-of-every _ _ _ _ _ _ told (all-rows _ _ _ _ _ _ _ h);
     }
 
 pub loop-rest-less : need.loop-rest-less
@@ -77,5 +77,5 @@ returns c =
     let told = subst (λ k. Reads (length (c .args .rows .now)) (c .args .text .now) (Rattle.std.specs.declared.result.Result.the-variants.Ok k) (take (c .loop-rest .count) (c .loop-rest .rows))) (sym (c .counts .ensures .counts-of-tally)) (granted _ _ _ _ _ _ _ h (c .if-text-gt-MOST-BYTES .left) none) in
     record {
       answer-and-rows = (take (c .loop-rest .count) (c .loop-rest .rows), told, all-rows _ _ _ _ _ _ _ h);
-      no-other-answer = λ answer filled r. one-answer _ _ answer _ filled _ r told;
+      no-other-answer = told-of-every _ _ _ _ _ _ told (all-rows _ _ _ _ _ _ _ h);
     }
