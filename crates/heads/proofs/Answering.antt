@@ -8,7 +8,8 @@ use Rattle.std.specs.declared.result.Result.{Result}
 use Rattle.std.specs.declared.result.Result.the-variants.{Ok, Err}
 use Rattle.faults.specs.declared.TextFault.the-variants.{Form, Number, Order, Reference, Limit, Repeat}
 use Rattle.faults.specs.declared.PlayFault.{PlayFault}
-use Rattle.faults.specs.declared.PlayFault.the-variants.{Text, Bounds, Settings}
+use Rattle.faults.specs.declared.PlayFault.the-variants.{Text, Typing, Bounds, Settings}
+use Rattle.faults.specs.declared.TypingFault.the-variants.{Parts, Unlisted, Definition}
 use Rattle.faults.specs.Numbers.{play-number}
 use Rattle.faults.proofs.Once.{least-once}
 use Rattle.heads.specs.Lines.{Least, Answers, Only}
@@ -22,7 +23,10 @@ fault-of n =
     (cond (eqb n 13) (Text Reference)
     (cond (eqb n 14) (Text Limit)
     (cond (eqb n 15) (Text Repeat)
-    (cond (eqb n 20) Bounds Settings))))))
+    (cond (eqb n 16) (Typing Parts)
+    (cond (eqb n 17) (Typing Unlisted)
+    (cond (eqb n 18) (Typing Definition)
+    (cond (eqb n 20) Bounds Settings)))))))))
 
 numbered : (fault : PlayFault) → fault-of (play-number fault) ≡ fault
 numbered (Text Form) = refl
@@ -31,6 +35,9 @@ numbered (Text Order) = refl
 numbered (Text Reference) = refl
 numbered (Text Limit) = refl
 numbered (Text Repeat) = refl
+numbered (Typing Parts) = refl
+numbered (Typing Unlisted) = refl
+numbered (Typing Definition) = refl
 numbered Bounds = refl
 numbered Settings = refl
 
@@ -45,6 +52,9 @@ least-form holds h = record { here = h; none-smaller = below }
     below (Text Reference) less k = omega arith
     below (Text Limit) less k = omega arith
     below (Text Repeat) less k = omega arith
+    below (Typing Parts) less k = omega arith
+    below (Typing Unlisted) less k = omega arith
+    below (Typing Definition) less k = omega arith
     below Bounds less k = omega arith
     below Settings less k = omega arith
 
@@ -59,6 +69,9 @@ least-number holds h formed = record { here = h; none-smaller = below }
     below (Text Reference) less k = omega arith
     below (Text Limit) less k = omega arith
     below (Text Repeat) less k = omega arith
+    below (Typing Parts) less k = omega arith
+    below (Typing Unlisted) less k = omega arith
+    below (Typing Definition) less k = omega arith
     below Bounds less k = omega arith
     below Settings less k = omega arith
 

@@ -18,7 +18,7 @@ use Rattle.std.specs.declared.result.Result.{Result}
 use Rattle.std.specs.declared.result.Result.the-variants.{Ok, Err}
 use Rattle.faults.specs.declared.TextFault.the-variants.{Form, Number}
 use Rattle.faults.specs.declared.PlayFault.{PlayFault}
-use Rattle.faults.specs.declared.PlayFault.the-variants.{Text, Bounds, Settings as Settings-fault}
+use Rattle.faults.specs.declared.PlayFault.the-variants.{Text, Typing, Bounds, Settings as Settings-fault}
 use Rattle.faults.specs.Numbers.{play-number}
 use Rattle.arithmetic.specs.declared.kinds.Word.{Word as Word-arithmetic}
 use Rattle.arithmetic.specs.declared.kinds.Counter.{Counter as Counter-arithmetic}
@@ -185,6 +185,7 @@ module _ (body : List ℕ) where
 
   faultless : (kind : Kind) (fault : PlayFault) → Spells-within settings-slots Settings-within-limits line (settings-of kind) → Arithmetic-line-fault line fault → ⊥
   faultless kind (Text fault) h k = text-faultless _ _ _ settings-reading body (settings-of kind) (h .spelled) fault k
+  faultless kind (Typing f) h k = k
   faultless kind Bounds h k = k
   faultless kind Settings-fault h k =
       k .2 (subst Settings-within-limits (spells-once _ _ _ settings-reading body (settings-of kind) (k .0) (h .spelled) (k .1)) (h .within))
@@ -200,6 +201,7 @@ module _ (body : List ℕ) where
     where
       below : (other : PlayFault) → play-number other < 22 → Arithmetic-line-fault line other → ⊥
       below (Text fault) less k = text-faultless _ _ _ settings-reading body s h fault k
+      below (Typing f) less k = k
       below Bounds less k = k
       below Settings-fault less k = omega arith
 

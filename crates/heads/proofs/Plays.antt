@@ -14,7 +14,7 @@ use Rattle.std.specs.declared.result.Result.{Result}
 use Rattle.std.specs.declared.result.Result.the-variants.{Ok, Err}
 use Rattle.faults.specs.declared.TextFault.the-variants.{Form, Number}
 use Rattle.faults.specs.declared.PlayFault.{PlayFault}
-use Rattle.faults.specs.declared.PlayFault.the-variants.{Text, Bounds as Bounds-fault, Settings}
+use Rattle.faults.specs.declared.PlayFault.the-variants.{Text, Typing, Bounds as Bounds-fault, Settings}
 use Rattle.faults.specs.Numbers.{play-number}
 use Rattle.bounds.specs.declared.limits.Bounds.{Bounds}
 use Rattle.bounds.specs.Limits.{Depth-limit, Insistence-limit, Steps-limit}
@@ -98,6 +98,7 @@ module _ (body : List ℕ) where
 
   faultless : (bounds : Bounds) (fault : PlayFault) → Spells-within play-slots Numbers-within-limits line (numbers-of bounds) → Play-line-fault line fault → ⊥
   faultless bounds (Text fault) h k = text-faultless _ _ _ play-reading body (numbers-of bounds) (h .spelled) fault k
+  faultless bounds (Typing f) h k = k
   faultless bounds Bounds-fault h k =
       k .2 (subst Numbers-within-limits (spells-once _ _ _ play-reading body (numbers-of bounds) (k .0) (h .spelled) (k .1)) (h .within))
   faultless bounds Settings h k = k
@@ -113,6 +114,7 @@ module _ (body : List ℕ) where
     where
       below : (other : PlayFault) → play-number other < 20 → Play-line-fault line other → ⊥
       below (Text fault) less k = text-faultless _ _ _ play-reading body n h fault k
+      below (Typing f) less k = k
       below Bounds-fault less k = omega arith
       below Settings less k = k
 

@@ -6,7 +6,7 @@ use Prim.Native.Nat.{ℕ}
 use Rattle.std.specs.declared.result.Result.{Result}
 use Rattle.std.specs.declared.result.Result.the-variants.{Ok, Err}
 use Rattle.faults.specs.declared.PlayFault.{PlayFault}
-use Rattle.faults.specs.declared.PlayFault.the-variants.{Text, Bounds, Settings as Settings-fault}
+use Rattle.faults.specs.declared.PlayFault.the-variants.{Text, Typing, Bounds, Settings as Settings-fault}
 use Rattle.arithmetic.specs.Settings.{word-settings, counter-settings}
 use Rattle.text.specs.Slots.{Slot, literal, number, word}
 use Rattle.heads.specs.declared.keywords.KindWord.the-variants.{Word as Word-kind, Counter as Counter-kind}
@@ -40,6 +40,7 @@ Made settings (Err fault) = (Settings-within-limits settings → ⊥) × (fault 
 -- a fault holds of the line
 abbrev pub Arithmetic-line-fault : List ℕ → PlayFault → Type 0
 Arithmetic-line-fault line (Text fault) = Text-fault settings-slots line fault
+Arithmetic-line-fault line (Typing fault) = ⊥
 Arithmetic-line-fault line Bounds = ⊥
 Arithmetic-line-fault line Settings-fault = Spells-outside settings-slots Settings-within-limits line
 

@@ -3,7 +3,7 @@ use mathlib.Core.List.{List, [], _∷_}
 use Prim.Native.Nat.{ℕ}
 use Rattle.std.specs.declared.result.Result.{Result}
 use Rattle.faults.specs.declared.PlayFault.{PlayFault}
-use Rattle.faults.specs.declared.PlayFault.the-variants.{Text, Bounds as Bounds-fault, Settings}
+use Rattle.faults.specs.declared.PlayFault.the-variants.{Text, Typing, Bounds as Bounds-fault, Settings}
 use Rattle.bounds.specs.declared.limits.Bounds.{Bounds}
 use Rattle.bounds.specs.Limits.{Within-bounds}
 use Rattle.text.specs.Slots.{Slot, literal, number}
@@ -26,6 +26,7 @@ numbers-of bounds = record { depth = bounds .depth; insistence = bounds .insiste
 -- a fault holds of the line
 abbrev pub Play-line-fault : List ℕ → PlayFault → Type 0
 Play-line-fault line (Text fault) = Text-fault play-slots line fault
+Play-line-fault line (Typing fault) = ⊥
 Play-line-fault line Bounds-fault = Spells-outside play-slots Numbers-within-limits line
 Play-line-fault line Settings = ⊥
 

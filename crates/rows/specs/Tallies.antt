@@ -1,10 +1,12 @@
 -- What a tally of rows tells. Assumes nothing.
 use mathlib.Core.Path.{_≡_}
-use mathlib.Core.Bool.{Bool, true, _&&_}
+use mathlib.Core.Bool.{Bool, true, cond, _&&_}
 use mathlib.Core.List.{List, [], _∷_}
 use Prim.Native.Nat.{ℕ, _+_, _≤_, _<_}
 use lib.Dec.{ltb}
 use lib.ListN.{getD, set}
+use Rattle.std.specs.declared.option.Option.{Option}
+use Rattle.std.specs.declared.option.Option.the-variants.{None, Some}
 use Rattle.rows.specs.declared.forms.TypeForm.{TypeForm}
 use Rattle.rows.specs.declared.forms.TypeForm.the-variants.{Unit as UnitType, Int as IntType, Pair as PairType, Fun as FunType}
 use Rattle.rows.specs.declared.forms.Row.{Row}
@@ -44,6 +46,10 @@ Counts-of rows c = (s : Section) → counted c s ≡ count s rows
 pub record Tallied (rows : List Row) (c : Counts) (leaf-counts : List ℕ) : Type 0 where
   pub counts : Counts-of rows c
   pub type-leaves : (k : ℕ) → k < count Types rows → getD leaf-counts k 0 ≡ leaves (getD (types rows) k unit)
+
+-- the leaves of the type of a number, where the types reach that far
+abbrev pub leaves-at : Counts → List ℕ → ℕ → Option ℕ
+leaves-at c table n = cond (ltb n (c .types)) (Some (getD table n 0)) None
 
 -- the leaves of the type that a row lists, by the leaves of the types that it names
 abbrev pub form-leaves-by : List ℕ → TypeForm → ℕ

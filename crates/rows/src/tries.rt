@@ -3,7 +3,7 @@ ghost use Prim.Native.Nat.{ℕ, _+_, _<_, _≤_};
 ghost use Rattle.faults.specs.declared.TextFault.the-variants.{Order, Reference, Limit, Repeat};
 ghost use Rattle.rows.specs.Faults.{Faultless, Least, Listed-before, Listed-type, None-of, Numbers-in-range, Row-fault};
 ghost use Rattle.rows.specs.Sections.{limit, references, running, section, term-references};
-ghost use Rattle.rows.specs.Tallies.{Order-by, Place-by, Tallied, all-below, counted, counts-with, later-count, leaves-by, leaves-with};
+ghost use Rattle.rows.specs.Tallies.{Order-by, Place-by, Tallied, all-below, counted, counts-with, later-count, leaves-at, leaves-by, leaves-with};
 ghost use Rattle.std.specs.Orderings.{When};
 ghost use mathlib.Core.Bool.{true};
 ghost use Rattle.std.specs.Results.{Cases};
@@ -185,6 +185,17 @@ impl Tally {
     {
         let tally = self;
         tally.counts
+    }
+
+    /// The leaves of the type of a number, or none past the last type.
+    pub fn leaves(self, number: u32) -> Option<u8>
+        ensures leaves_of_type { λ r. ⌜ r ≡ leaves-at (self .counts) (self .leaves) number ⌝ }
+    {
+        if number < self.counts.types {
+            Some(self.leaves[number as usize])
+        } else {
+            None
+        }
     }
 
     // The leaves of the type that a row lists; 0 for any other row.
