@@ -1,0 +1,15 @@
+mod Exact
+mod Computed
+mod Sayings
+mod Nexts
+mod Listed
+mod Counts
+mod Determined
+mod Ordered
+mod Distinct
+mod Extends
+mod Told
+mod Typed
+mod Preserved
+mod Unfolded
+mod Begun
