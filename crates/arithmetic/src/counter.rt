@@ -35,11 +35,11 @@ impl Arithmetic for Counter {
     ghost closed = { λ a.
         record {
           lawful_fits = λ z h. counts_fit a.top z a.limits.1 h;
-          result-lawful = λ o x y h k. counter-result-stays a.top o x y a.limits.0 h k;
-          less-one-or-zero = λ x y _ _. one-or-zero-is (int_lt x y);
-          equal-one-or-zero = λ x y _ _. one-or-zero-is (same x y);
+          result_lawful = λ o x y h k. counter_result_stays a.top o x y a.limits.0 h k;
+          less_one_or_zero = λ x y _ _. one_or_zero_is (int_lt x y);
+          equal_one_or_zero = λ x y _ _. one_or_zero_is (same x y);
           zero_lawful = λ z h. rw (zero_is z h) (Prim.grind (arith, ints));
-          may-say-lawful = λ z h. let w = within a.lo a.hi z h in Prim.grind (arith, ints);
+          may_say_lawful = λ z h. let w = within a.lo a.hi z h in Prim.grind (arith, ints);
         } };
 
     // The result of an operation on two words from 0 to the top, and none on others.

@@ -6,7 +6,7 @@ ghost use Rattle.arithmetic.specs.Settings.{counter_settings, word_settings};
 pub struct Word {
     pub lo: i32,
     pub hi: i32,
-    ghost limits: { word-settings lo hi },
+    ghost limits: { word_settings lo hi },
 }
 
 /// Lawful are 0 to `top`, and the host may say `lo` to `hi`.
@@ -15,5 +15,5 @@ pub struct Counter {
     pub top: u16,
     pub lo: i32,
     pub hi: i32,
-    ghost limits: { counter-settings top lo hi },
+    ghost limits: { counter_settings top lo hi },
 }

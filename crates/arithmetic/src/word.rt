@@ -30,11 +30,11 @@ impl Arithmetic for Word {
     ghost closed = { λ a.
         record {
           lawful_fits = word_fits;
-          result-lawful = λ o x y _ _. word-result-stays o x y;
-          less-one-or-zero = λ x y _ _. one-or-zero-is (int_lt x y);
-          equal-one-or-zero = λ x y _ _. one-or-zero-is (same x y);
+          result_lawful = λ o x y _ _. word_result_stays o x y;
+          less_one_or_zero = λ x y _ _. one_or_zero_is (int_lt x y);
+          equal_one_or_zero = λ x y _ _. one_or_zero_is (same x y);
           zero_lawful = λ z h. rw (zero_is z h);
-          may-say-lawful = λ z h. let w = within a.lo a.hi z h in Prim.grind (arith, ints);
+          may_say_lawful = λ z h. let w = within a.lo a.hi z h in Prim.grind (arith, ints);
         } };
 
     // The result of an operation, which every two words have.

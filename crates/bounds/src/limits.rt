@@ -7,7 +7,7 @@ pub struct Bounds {
     pub depth: u32,
     pub insistence: u32,
     pub steps: u32,
-    ghost depth_limit: { Depth-limit depth },
-    ghost insistence_limit: { Insistence-limit insistence },
-    ghost steps_limit: { Steps-limit steps },
+    ghost depth_limit: { DepthLimit depth },
+    ghost insistence_limit: { InsistenceLimit insistence },
+    ghost steps_limit: { StepsLimit steps },
 }

@@ -12,9 +12,9 @@ pub struct Library {
     pub(crate) rows: Vec<Row>,
     pub(crate) term_types: Vec<u32>,
     pub(crate) tally: Tally,
-    ghost well_typed: { Well-typed rows.items },
-    ghost counted: { Counts-of rows.items tally.counts },
-    ghost leaves: { Leaves-by rows.items tally.leaves },
-    ghost typed: { Typed-by rows.items term_types.items },
+    ghost well_typed: { WellTyped rows.items },
+    ghost counted: { CountsOf rows.items tally.counts },
+    ghost leaves: { LeavesBy rows.items tally.leaves },
+    ghost typed: { TypedBy rows.items term_types.items },
     ghost all_typed: { vec_len term_types ≡ tally.counts.terms },
 }

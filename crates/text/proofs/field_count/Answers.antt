@@ -7,8 +7,8 @@ use Rattle.text.proofs.field_count.Goals.{then-byte-eq44, else-byte-eq44}
 pub loop-byte-preserved : goal.loop-byte-preserved
 loop-byte-preserved c =
     elim c.if-byte-eq44.branch [
-      | then-byte-eq44 w ↦ (omega (arith, w.commas_is, fields_at_comma c.args.bytes.now c.loop-byte.byte-index c.loop-byte-test.true w.if-byte-eq44.true), omega (arith, w.commas_is))
-      | else-byte-eq44 w ↦ (omega (arith, w.commas_is, fields_at_other c.args.bytes.now c.loop-byte.byte-index c.loop-byte-test.true w.if-byte-eq44.false), omega (arith, w.commas_is))
+      | then-byte-eq44 w ↦ (omega (arith, w.commas-is, fields_at_comma c.args.bytes.now c.loop-byte.byte-index c.loop-byte-test.true w.if-byte-eq44.true), omega (arith, w.commas-is))
+      | else-byte-eq44 w ↦ (omega (arith, w.commas-is, fields_at_other c.args.bytes.now c.loop-byte.byte-index c.loop-byte-test.true w.if-byte-eq44.false), omega (arith, w.commas-is))
     ]
 
 pub returns : goal.returns

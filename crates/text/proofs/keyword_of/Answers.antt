@@ -7,7 +7,7 @@ use Rattle.text.proofs.keyword_of.Goals as goal
 
 pub returns-in_err-word : goal.returns-in_err-word
 returns-in_err-word g c =
-    absurd (nth_inside g.K.Keyword.table c.loop-place.place (omega (arith, c.count_place_end.ensures.all_words)) (sym c.in_err-word.ensures.word_at_place))
+    absurd (nth_inside g.K.Keyword.table c.loop-place.place (omega (arith, c.count-place-end.ensures.all_words)) (sym c.in_err-word.ensures.word_at_place))
 
 pub returns-then-is_spelled : goal.returns-then-is_spelled
 returns-then-is_spelled g c =
@@ -24,7 +24,7 @@ loop-place-preserved g c =
 
 pub returns : goal.returns
 returns g c =
-    let none = sym (keyword_past g.K.Keyword.spelled g.K.Keyword.table c.args.field.now c.loop-place.place (omega (arith, c.count_place_end.ensures.all_words))) ∙ c.loop-place.invariant in
+    let none = sym (keyword_past g.K.Keyword.spelled g.K.Keyword.table c.args.field.now c.loop-place.place (omega (arith, c.count-place-end.ensures.all_words))) ∙ c.loop-place.invariant in
     record {
       value = none;
       spelled_so = λ k e. keyword_none g.K.Keyword.spelled g.K.Keyword.table c.args.field.now k (sym none) (g.met.K.Keyword.found k) e;

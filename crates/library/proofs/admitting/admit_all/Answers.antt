@@ -12,7 +12,7 @@ pub admit_requires : goal.admit_requires
 admit_requires c = record { tally_of_before = tallied_start c.args.rows.now c.loop-place.place _ _ c.loop-place.invariant.1 }
 
 pub fault_of_row-requires : goal.fault_of_row-requires
-fault_of_row-requires c = record { few_rows = place_few c.args.rows.now c.loop-place.place c.loop-place.auto.place_end c.loop-place.invariant.0 }
+fault_of_row-requires c = record { few_rows = place_few c.args.rows.now c.loop-place.place c.loop-place.auto.place-end c.loop-place.invariant.0 }
 
 pub loop-place-preserved : goal.loop-place-preserved
 loop-place-preserved c = admitted_next c.args.rows.now c.loop-place.place _ _ c.loop-place-test.true c.loop-place.invariant.0 c.in-Ok.ensures.least_fault_or_one_more

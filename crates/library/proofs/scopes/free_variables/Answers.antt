@@ -20,12 +20,12 @@ loop-row-preserved c =
       | in-Term+else-is_err w ↦
           let set = w.free_in-set.result in
           let pushed : vec_items c.match-row.known ≡ known ++ (set ∷ []) =
-          ap vec_items w.known_is ∙ w.push.ensures.items ∙ ap (λ b. cond b (known ++ (set ∷ [])) known) w.if-is_err.ensures.negation in
+          ap vec_items w.known-is ∙ w.push.ensures.items ∙ ap (λ b. cond b (known ++ (set ∷ [])) known) w.if-is_err.ensures.negation in
           let found : set ≡ free_in known w.in-Term.form = w.free_in-set.ensures.set_of_term ∙ ap (λ ks. free_in ks w.in-Term.form) w.deref.ensures.value in
           let next = scoped_next rows c.requires.faultless i w.in-Term.field-0 w.in-Term.form (here ∙ ap Some w.in-Term.is) known set inv.0 inv.1 found in
           subst Next (sym pushed) (next.0, next.1, words_more known set inv.2 w.free_in-set.type_inv)
       | in_default w ↦
-          subst Next (ap vec_items (sym w.known_is)) (inv.0, inv.1 ∙ no_term rows c.requires.faultless i _ here (λ t form e. w.in_default.not-Term t form e), inv.2)
+          subst Next (ap vec_items (sym w.known-is)) (inv.0, inv.1 ∙ no_term rows c.requires.faultless i _ here (λ t form e. w.in_default.not-Term t form e), inv.2)
     ]
 
 pub loop-row-init : goal.loop-row-init

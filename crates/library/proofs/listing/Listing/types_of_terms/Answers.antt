@@ -25,11 +25,11 @@ loop-place-preserved c =
     elim c.match-row.branch [
       | in-Term+in-Ok+else-is_err w ↦
           let pushed : vec_items c.match-row.known ≡ known ++ (w.in-Ok.number ∷ []) =
-          ap vec_items w.known_is ∙ w.push.ensures.items ∙ ap (λ b. cond b (known ++ (w.in-Ok.number ∷ [])) known) w.if-is_err.ensures.negation in
+          ap vec_items w.known-is ∙ w.push.ensures.items ∙ ap (λ b. cond b (known ++ (w.in-Ok.number ∷ [])) known) w.if-is_err.ensures.negation in
           let found : type_of rows known w.in-Term.form ≡ Ok w.in-Ok.number = ap (λ ks. type_of rows ks w.in-Term.form) (sym w.deref.ensures.value) ∙ sym w.in-Ok.ensures.listed_type in
           subst Next (sym pushed) (typed_next rows c.requires.faultless i w.in-Term.field-0 w.in-Term.form (here ∙ ap Some w.in-Term.is) known w.in-Ok.number inv.0 inv.1 found)
       | in_default w ↦
-          subst Next (ap vec_items (sym w.known_is)) (inv.0, inv.1 ∙ no_term rows c.requires.faultless i _ here (λ t form e. w.in_default.not-Term t form e))
+          subst Next (ap vec_items (sym w.known-is)) (inv.0, inv.1 ∙ no_term rows c.requires.faultless i _ here (λ t form e. w.in_default.not-Term t form e))
     ]
 
 pub returns-in-Err : goal.returns-in-Err
