@@ -67,7 +67,7 @@ impl Library {
         ensures granted_definitions { OnOk result (SoundDefinitions rows.now) }
         ensures one_type_each { OneType }
     {
-        match drafted(self.rows.allocator(), rows) {
+        match drafted(*self.rows.allocator(), rows) {
             Ok(library) => {
                 *self = library;
                 Ok(())

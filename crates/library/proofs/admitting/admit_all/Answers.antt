@@ -8,8 +8,8 @@ use Rattle.library.proofs.admitting.admit_all.Goals as goal
 pub loop-place-init : goal.loop-place-init
 loop-place-init c = ((λ i row lt. absurd (omega arith)), c.new-tally.ensures.tally_of_no_rows)
 
-pub admit_requires : goal.admit_requires
-admit_requires c = record { tally_of_before = tallied_start c.args.rows.now c.loop-place.place _ _ c.loop-place.invariant.1 }
+pub admit-requires : goal.admit-requires
+admit-requires c = record { tally_of_before = tallied_start c.args.rows.now c.loop-place.place _ _ c.loop-place.invariant.1 }
 
 pub fault_of_row-requires : goal.fault_of_row-requires
 fault_of_row-requires c = record { few_rows = place_few c.args.rows.now c.loop-place.place c.loop-place.auto.place-end c.loop-place.invariant.0 }

@@ -39,19 +39,14 @@ invariant_of-result c =
     let given = c.in_ok-tally.ensures.tally_or_first_fault in
     let types = c.in_ok-term_types.ensures.types_or_first_fault in
     let found = found_through c.args.rows.now _ _ _ _ c.deref.ensures.value c.deref-2.ensures.value types c.in_ok-free.ensures.sets_of_terms in
-    let same : vec_items c.in-Ok.rows ≡ c.args.rows.now = c.in-Ok.ensures.items_if_clones_equal (λ x y e. e) in (
-      subst WellTyped (sym same) (granted_rows c.args.rows.now given.0 _ _ found c.in_default.ensures.all_before_stand),
-      (
-        subst (λ rs. CountsOf rs c.in_ok-tally.tally.counts) (sym same) given.1.counts,
-        (
-          subst (λ rs. LeavesBy rs c.in_ok-tally.tally.leaves) (sym same) given.1.type_leaves,
-          (
-            subst (λ rs. TypedBy rs (vec_items c.in_ok-term_types.term_types)) (sym same) types.0,
-            (c.in_ok-term_types.term_types.ok.0 ∙ types.1 ∙ sym (given.1.counts Terms ∙ count_length Terms c.args.rows.now), tt),
-          ),
-        ),
-      ),
-    )
+    let same : vec_items c.in-Ok.rows ≡ c.args.rows.now = c.in-Ok.ensures.items_if_clones_equal (λ x y e. e) in
+    record {
+      well_typed = subst WellTyped (sym same) (granted_rows c.args.rows.now given.0 _ _ found c.in_default.ensures.all_before_stand);
+      counted = subst (λ rs. CountsOf rs c.in_ok-tally.tally.counts) (sym same) given.1.counts;
+      leaves = subst (λ rs. LeavesBy rs c.in_ok-tally.tally.leaves) (sym same) given.1.type_leaves;
+      typed = subst (λ rs. TypedBy rs (vec_items c.in_ok-term_types.term_types)) (sym same) types.0;
+      all_typed = c.in_ok-term_types.term_types.ok.0 ∙ types.1 ∙ sym (given.1.counts Terms ∙ count_length Terms c.args.rows.now);
+    }
 
 pub returns : goal.returns
 returns c =

@@ -26,5 +26,5 @@ pub returns-in-Err : goal.returns-in-Err
 returns-in-Err c =
     let parts = c.in-Some.ensures.parts in
     let told = c.in-Err.ensures in
-    let t = faulty_told ArithmeticAnswer 1 PlayAndLibrary c.args.input.now c.in-Some.line.now c.in-Some.rest.now parts.0 parts.1 c.at_in_Err.result c.in-Err.fault told.answer told.only_answer c.at_in_Err.ensures.placed in
+    let t = faulty_told ArithmeticAnswer 1 PlayAndLibrary c.args.input.now c.in-Some.line.now c.in-Some.rest.now parts.0 parts.1 c.at-in-Err.result c.in-Err.fault told.answer told.only_answer c.at-in-Err.ensures.placed in
     record { answer = t.0; only_answer = t.1 }

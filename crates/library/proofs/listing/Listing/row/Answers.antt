@@ -6,8 +6,8 @@ use Rattle.rows.specs.Tallies.{counted}
 use Rattle.library.specs.Inference.{start}
 use Rattle.library.proofs.listing.Listing.row.Goals as goal
 
-pub returns-then-number_of : goal.returns-then-number_of
-returns-then-number_of c =
+pub returns-then-number-of : goal.returns-then-number-of
+returns-then-number-of c =
     let past : length (section_rows c.args.section c.args.self.rows.now) ≤ c.args.number = omega (arith, c.requires.sectioned.counts c.args.section, c.of.ensures.count_of_section) in
     record { row_of_number = sym (slice_get_past (section_rows c.args.section c.args.self.rows.now) c.args.number past) }
 
