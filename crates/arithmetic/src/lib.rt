@@ -1,4 +1,6 @@
 //! An arithmetic as an interface: what it means, and the calls that tell its meaning.
+#![tactic(auto)]
+
 ghost use Rattle.arithmetic.specs.Meaning.{Closed, Listed, Meaning, WordList, operated, word_at_place};
 ghost use Rattle.std.specs.Prelude.{◌≡◌};
 

@@ -1,4 +1,6 @@
 //! The bounds of play, made only within their limits.
+#![tactic(auto)]
+
 ghost use Rattle.bounds.specs.Made.{BoundsMade};
 
 use faults::PlayFault;

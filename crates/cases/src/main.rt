@@ -1,4 +1,6 @@
 //! Answers each input that the file `names` lists, and prints its name with the answer; then reads into few rows.
+#![tactic(auto)]
+
 use anyhow::anyhow;
 use faults::{Placed, TextFault};
 use reader::read;

@@ -1,4 +1,6 @@
 //! Faults that a text, a library or the settings of play are refused for, with their places and numbers.
+#![tactic(auto)]
+
 ghost use Rattle.faults.specs.Numbers.{in_library, in_play, library_number, play_number, taken_in, text_number, typing_number};
 ghost use Rattle.std.specs.Prelude.{◌≡◌};
 

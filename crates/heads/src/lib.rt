@@ -1,4 +1,6 @@
 //! The two head lines of an input: the arithmetic that the first names, and the bounds of play that the second names.
+#![tactic(auto)]
+
 ghost use Rattle.heads.specs.Arithmetics.{ArithmeticAnswer};
 ghost use Rattle.heads.specs.Lines.{Only};
 ghost use Rattle.heads.specs.Plays.{PlayAnswer};

@@ -1,4 +1,6 @@
 //! Libraries: typing, mounting, and what is mounted.
+#![tactic(auto)]
+
 mod admitting;
 mod contents;
 mod definitions;

@@ -1,4 +1,6 @@
 //! Reads two head lines and a library from standard input, and prints how many rows were read, or the first fault.
+#![tactic(auto)]
+
 use report::report;
 use std::io;
 use std::io::Read;

@@ -1,4 +1,6 @@
 //! Reads library text into rows that are handed in.
+#![tactic(auto)]
+
 ghost use Rattle.faults.specs.declared.Placed.{Placed};
 ghost use Rattle.faults.specs.declared.TextFault.{TextFault};
 ghost use Rattle.reader.specs.Text.{Reads};

@@ -1,4 +1,6 @@
 //! The answer to a whole input, as the bytes to print.
+#![tactic(auto)]
+
 ghost use Rattle.report.specs.Input.{Answer, InputAnswer};
 ghost use Rattle.report.specs.Output.{answer_line};
 ghost use Rattle.std.specs.Prelude.{◌≡◌, ◌++◌, IfOk, string_bytes, codes, decimal};

@@ -1,4 +1,6 @@
 //! The rows of a library, and the faults that a row has after the rows before it.
+#![tactic(auto)]
+
 mod forms;
 mod keywords;
 mod ranges;

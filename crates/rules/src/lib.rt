@@ -1,4 +1,6 @@
 //! The rules of play as definitions, each theorem on them the contract of a function.
+#![tactic(auto)]
+
 ghost use Rattle.arithmetic.specs.Meaning.{Meaning};
 ghost use Rattle.rules.specs.Stepping.{TakesTheSteps, OneStep};
 ghost use Rattle.rules.specs.Worked.{Spelled, Worked};

@@ -1,5 +1,7 @@
 //! Fields, numbers, keywords and lines of comma-parted text.
 //! `first_line` cuts off a line, `Fields` takes it apart, and `number`, `signed_word` and `keyword_of` read a field.
+#![tactic(auto)]
+
 ghost use Rattle.std.specs.Prelude.{◌≡◌, ℕ, ◌^◌, ◌<◌, ◌≤◌, List, [], ◌∷◌, ◌++◌, length, ℤ, Some, None, decimal, MatchOption, FitsSigned, ◌==◌, ◌≢◌, slice_index};
 ghost use Rattle.std.specs.Option.{option_map};
 ghost use Rattle.std.specs.Fmt.{signed_decimal};
