@@ -2,7 +2,7 @@
 use Rattle.std.proofs.Common.{◌≡◌, ℕ, ◌<◌, true, false, List, [], ◌∷◌, ◌++◌, map, length, ℤ, pos, Some, None, Ok, Err, Option, Result, sym, refl, ap, ◌∙◌, subst, arith, w32, SFits, eq-eqb, true-eqb}
 use denote.Struct.Props.{props}
 use Rattle.std.specs.Fmt.{signed_decimal}
-use Rattle.std.specs.List.{AllByRecursion as All}
+use Rattle.std.specs.List.{AllByRecursion}
 use Rattle.faults.specs.declared.TextFault.TheVariants.{Form, Number}
 use Rattle.faults.specs.declared.PlayFault.{PlayFault}
 use Rattle.faults.specs.declared.PlayFault.TheVariants.{Text, Typing, Bounds, Settings as SettingsFault}
@@ -29,7 +29,7 @@ use Rattle.text.proofs.Forms.{words_free, fits_length, word_first}
 use Rattle.heads.proofs.Answering.{least_form, least_number, one_answer}
 
 -- the fields of settings spell them
-settings_written : (s : Settings) → All InRange (settings_slots s) → settings_in (map written (settings_slots s)) ≡ Some s
+settings_written : (s : Settings) → AllByRecursion InRange (settings_slots s) → settings_in (map written (settings_slots s)) ≡ Some s
 settings_written (WordNumbers lo hi) h = rw (word_written lo h.1.1.0, word_written hi h.1.1.1.0)
 settings_written (CounterNumbers top lo hi) h = rw (number_written top h.1.1.0, word_written lo h.1.1.1.0, word_written hi h.1.1.1.1.0)
 
@@ -53,7 +53,7 @@ words_exact (f ∷ g ∷ h ∷ fs) p e = absurd (none_some p e)
 
 -- slots whose numbers are in range, and that the fields are written by
 abbrev WrittenBy : Settings → List (List ℕ) → Type 0
-WrittenBy s gs = All InRange (settings_slots s) × (map written (settings_slots s) ≡ gs)
+WrittenBy s gs = AllByRecursion InRange (settings_slots s) × (map written (settings_slots s) ≡ gs)
 
 word_exact_of : (o : Option (ℤ × ℤ)) (fs : List (List ℕ)) (s : Settings) → two_words fs ≡ o → word_of_range o ≡ Some s → WrittenBy s (arithmetic_word ∷ kind_word WordKind ∷ fs)
 word_exact_of None fs s is e = absurd (none_some s e)
@@ -107,16 +107,16 @@ settings_fit (CounterNumbers top lo hi) gs h =
     let p = two_first arithmetic_word (kind_word CounterKind) (number top ∷ word lo ∷ word hi ∷ []) gs h in
     ap settings_formed p.1 ∙ eq-eqb (length p.0) 3 p.2
 
-kind_form : (k : KindWord) (fs : List (List ℕ)) → All Free fs → settings_formed_by (Some k) fs ≡ true → (s : Settings) × Fits (settings_slots s) (arithmetic_word ∷ kind_word k ∷ fs)
+kind_form : (k : KindWord) (fs : List (List ℕ)) → AllByRecursion Free fs → settings_formed_by (Some k) fs ≡ true → (s : Settings) × Fits (settings_slots s) (arithmetic_word ∷ kind_word k ∷ fs)
 kind_form WordKind fs free e =
     (WordNumbers (pos 0) (pos 0), (refl, (refl, free_fits (word (pos 0) ∷ word (pos 0) ∷ []) fs (tt, (tt, tt)) free (true-eqb (length fs) 2 (sym e)))))
 kind_form CounterKind fs free e =
     (CounterNumbers 0 (pos 0) (pos 0), (refl, (refl, free_fits (number 0 ∷ word (pos 0) ∷ word (pos 0) ∷ []) fs (tt, (tt, (tt, tt))) free (true-eqb (length fs) 3 (sym e)))))
 
-settings_form : (gs : List (List ℕ)) → All Free gs → settings_formed gs ≡ true → (s : Settings) × Fits (settings_slots s) gs
+settings_form : (gs : List (List ℕ)) → AllByRecursion Free gs → settings_formed gs ≡ true → (s : Settings) × Fits (settings_slots s) gs
 settings_form gs free e = after (after_word arithmetic_word gs) refl e
   where
-    named : (f : List ℕ) (fs : List (List ℕ)) → All Free fs → (k : Option KindWord) → keyword_of kind_word kind_table f ≡ k → settings_formed_by k fs ≡ true → (s : Settings) × Fits (settings_slots s) (arithmetic_word ∷ f ∷ fs)
+    named : (f : List ℕ) (fs : List (List ℕ)) → AllByRecursion Free fs → (k : Option KindWord) → keyword_of kind_word kind_table f ≡ k → settings_formed_by k fs ≡ true → (s : Settings) × Fits (settings_slots s) (arithmetic_word ∷ f ∷ fs)
     named f fs here None found h = absurd (false_true h)
     named f fs here (Some k) found h =
         subst (λ v. (s : Settings) × Fits (settings_slots s) (arithmetic_word ∷ v ∷ fs)) (keyword_found kind_word kind_table f k found) (kind_form k fs here h)
@@ -126,7 +126,7 @@ settings_form gs free e = after (after_word arithmetic_word gs) refl e
     after (Some []) is h = absurd (false_true h)
     after (Some (f ∷ fs)) is h =
         let whole = after_found arithmetic_word gs (f ∷ fs) is in
-        let here : All Free (arithmetic_word ∷ f ∷ fs) = subst (All Free) whole free in
+        let here : AllByRecursion Free (arithmetic_word ∷ f ∷ fs) = subst (AllByRecursion Free) whole free in
         subst (λ hs. (s : Settings) × Fits (settings_slots s) hs) (sym whole) (named f fs here.1.1 (keyword_of kind_word kind_table f) refl h)
 
 abbrev after_first : Settings → List Slot

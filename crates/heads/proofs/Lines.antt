@@ -1,6 +1,6 @@
 -- What the fields of a line tell of the line, for any thing that a line may name. Assumes nothing.
 use Rattle.std.proofs.Common.{◌≡◌, ℕ, suc, Bool, true, false, cond, not, ◌&&◌, eqb, List, [], ◌∷◌, ◌++◌, map, length, Some, None, Option, sym, refl, ap, ◌∙◌, subst, arith, eq-eqb}
-use Rattle.std.specs.List.{AllByRecursion as All}
+use Rattle.std.specs.List.{AllByRecursion}
 use Rattle.std.specs.Str.{bytes_eq}
 use Rattle.std.proofs.lemmas.Slice.Eq.{bytes_eq-Decides}
 use Rattle.std.proofs.lemmas.List.{same_from_push}
@@ -25,7 +25,7 @@ Blank (number n) = Unit {0}
 Blank (word z) = Unit {0}
 
 -- as many free fields as slots of numbers fit them
-pub free_fits : (ss : List Slot) (gs : List (List ℕ)) → All Blank ss → All Free gs → length gs ≡ length ss → Fits ss gs
+pub free_fits : (ss : List Slot) (gs : List (List ℕ)) → AllByRecursion Blank ss → AllByRecursion Free gs → length gs ≡ length ss → Fits ss gs
 free_fits [] [] blank free e = tt
 free_fits [] (g ∷ gs) blank free e = omega arith
 free_fits (s ∷ ss) [] blank free e = omega arith
@@ -54,10 +54,10 @@ pub record Reading {X : Type 0} (slots : X → List Slot) (formed : List (List �
   pub free : (x : X) → words_free (slots x) ≡ true
   -- fields that fit have the form, and free fields of that form fit
   pub fits : (x : X) (gs : List (List ℕ)) → Fits (slots x) gs → formed gs ≡ true
-  pub form : (gs : List (List ℕ)) → All Free gs → formed gs ≡ true → (x : X) × Fits (slots x) gs
+  pub form : (gs : List (List ℕ)) → AllByRecursion Free gs → formed gs ≡ true → (x : X) × Fits (slots x) gs
   -- what is printed is read back, and what is read was printed
-  pub printed_read : (x : X) → All InRange (slots x) → read (map written (slots x)) ≡ Some x
-  pub read_printed : (gs : List (List ℕ)) (x : X) → read gs ≡ Some x → All InRange (slots x) × (map written (slots x) ≡ gs)
+  pub printed_read : (x : X) → AllByRecursion InRange (slots x) → read (map written (slots x)) ≡ Some x
+  pub read_printed : (gs : List (List ℕ)) (x : X) → read gs ≡ Some x → AllByRecursion InRange (slots x) × (map written (slots x) ≡ gs)
 
 module _ {X : Type 0} (slots : X → List Slot) (formed : List (List ℕ) → Bool) (read : List (List ℕ) → Option X) (laws : Reading slots formed read) (body : List ℕ) where
   abbrev line : List ℕ

@@ -1,7 +1,7 @@
 -- What the fields of a second line tell of the line, and the one answer to it. Assumes nothing.
 use Rattle.std.proofs.Common.{◌≡◌, ℕ, ◌<◌, true, false, List, [], ◌∷◌, ◌++◌, map, length, Some, None, Ok, Err, Option, Result, sym, refl, ap, ◌∙◌, subst, arith, eq-eqb, true-eqb}
 use denote.Struct.Props.{props}
-use Rattle.std.specs.List.{AllByRecursion as All}
+use Rattle.std.specs.List.{AllByRecursion}
 use Rattle.faults.specs.declared.TextFault.TheVariants.{Form, Number}
 use Rattle.faults.specs.declared.PlayFault.{PlayFault}
 use Rattle.faults.specs.declared.PlayFault.TheVariants.{Text, Typing, Bounds as BoundsFault, Settings}
@@ -23,12 +23,12 @@ use Rattle.text.proofs.Forms.{fits_length, word_first}
 use Rattle.heads.proofs.Answering.{least_form, least_number, one_answer}
 
 -- the fields of numbers spell them
-play_written : (n : PlayNumbers) → All InRange (play_slots n) → play_in (map written (play_slots n)) ≡ Some n
+play_written : (n : PlayNumbers) → AllByRecursion InRange (play_slots n) → play_in (map written (play_slots n)) ≡ Some n
 play_written n h = ap play_of (three_written n.depth n.insistence n.steps h.1.0 h.1.1.0 h.1.1.1.0)
 
 -- slots whose numbers are in range, and that the fields are written by
 abbrev WrittenBy : PlayNumbers → List (List ℕ) → Type 0
-WrittenBy n gs = All InRange (play_slots n) × (map written (play_slots n) ≡ gs)
+WrittenBy n gs = AllByRecursion InRange (play_slots n) × (map written (play_slots n) ≡ gs)
 
 -- the numbers that fields spell are written by them
 play_exact : (gs : List (List ℕ)) (n : PlayNumbers) → play_in gs ≡ Some n → WrittenBy n gs
@@ -52,14 +52,14 @@ play_fit n gs h =
     let p = word_first play_word numbers gs h in
     ap play_formed p.1 ∙ eq-eqb (length p.0) 3 (fits_length numbers p.0 p.2)
 
-play_form : (gs : List (List ℕ)) → All Free gs → play_formed gs ≡ true → (n : PlayNumbers) × Fits (play_slots n) gs
+play_form : (gs : List (List ℕ)) → AllByRecursion Free gs → play_formed gs ≡ true → (n : PlayNumbers) × Fits (play_slots n) gs
 play_form gs free e = after (after_word play_word gs) refl e
   where
     after : (o : Option (List (List ℕ))) → after_word play_word gs ≡ o → play_formed_after o ≡ true → (n : PlayNumbers) × Fits (play_slots n) gs
     after None is h = absurd (false_true h)
     after (Some fs) is h =
         let whole = after_found play_word gs fs is in
-        let here : All Free (play_word ∷ fs) = subst (All Free) whole free in
+        let here : AllByRecursion Free (play_word ∷ fs) = subst (AllByRecursion Free) whole free in
         let fit = free_fits (number 0 ∷ number 0 ∷ number 0 ∷ []) fs (tt, (tt, (tt, tt))) here.1 (true-eqb (length fs) 3 (sym h)) in
         (record { depth = 0; insistence = 0; steps = 0 }, subst (Fits (play_slots (record { depth = 0; insistence = 0; steps = 0 }))) (sym whole) (refl, fit))
 

@@ -1,6 +1,6 @@
 -- What rows without text fault say of their sections. Assumes nothing.
 use Rattle.std.proofs.Common.{◌≡◌, ℕ, zero, suc, ◌+◌, ◌<◌, ◌≤◌, Bool, true, false, cond, eqb, ◌⊎◌, List, [], ◌∷◌, ◌++◌, length, get_or, take, drop, Some, None, Option, unwrap_or, sym, refl, ap, ◌∙◌, subst, inl, ⊎_elim, arith, lit<, length-append, eq-eqb, true-eqb}
-use Rattle.std.specs.List.{slice_get, AllByRecursion as All}
+use Rattle.std.specs.List.{slice_get, AllByRecursion}
 use Rattle.std.proofs.lemmas.Option.{slice_get-get_or}
 use Rattle.std.proofs.str.Laws.{order}
 use Rattle.faults.specs.declared.TextFault.TheVariants.{Order, Reference, Limit, Repeat}
@@ -82,7 +82,7 @@ equal_stable a b h =
     ⊎_elim (λ lt. absurd (h (λ e. omega arith)))
     (λ le. ⊎_elim (λ lt. absurd (h (λ e. omega arith))) (λ ge. omega arith) (order b a)) (order a b)
 
-all_stable : {X : Type 0} (P : X → Type 0) → ((x : X) → ((P x → ⊥) → ⊥) → P x) → (xs : List X) → ((All P xs → ⊥) → ⊥) → All P xs
+all_stable : {X : Type 0} (P : X → Type 0) → ((x : X) → ((P x → ⊥) → ⊥) → P x) → (xs : List X) → ((AllByRecursion P xs → ⊥) → ⊥) → AllByRecursion P xs
 all_stable P stable [] h = tt
 all_stable P stable (x ∷ xs) h = (stable x (λ k. h (λ a. k a.0)), all_stable P stable xs (λ k. h (λ a. k a.1)))
 
@@ -347,7 +347,7 @@ module _ (rows : List Row) (fine : Faultless rows) where
       declared_below Globals n k (GlobalRow r.0 k r.1) r.2 (λ before h. h.0)
 
   -- a term is over earlier terms
-  pub term_back : (t : ℕ) (form : TermForm) → term_at rows t ≡ Some form → (before : List Row) × All (λ p. p.1 < count p.0 before) (term_references form) × (count Terms before ≡ t) × ((s : Section) → count s before ≤ length (section_rows s rows))
+  pub term_back : (t : ℕ) (form : TermForm) → term_at rows t ≡ Some form → (before : List Row) × AllByRecursion (λ p. p.1 < count p.0 before) (term_references form) × (count Terms before ≡ t) × ((s : Section) → count s before ≤ length (section_rows s rows))
   term_back t form e =
       let r = term_row (slice_get (section_rows Terms rows) t) form e in
       let row = TermRow r.0 form in

@@ -2,7 +2,7 @@
 use Rattle.std.proofs.Common.{◌≡◌, ℕ, suc, ◌<◌, ◌≤◌, Bool, true, false, eqb, List, [], ◌∷◌, ◌++◌, map, length, replicate, ℤ, pos, Some, None, codes, decimal, Option, sym, refl, ap, ◌∙◌, subst, arith, w32, SFits, eq-eqb, true-eqb}
 use Rattle.std.specs.Option.{option_map}
 use Rattle.std.specs.Fmt.{signed_decimal}
-use Rattle.std.specs.List.{AllByRecursion as All}
+use Rattle.std.specs.List.{AllByRecursion}
 use Rattle.arithmetic.specs.declared.Operation.{Operation}
 use Rattle.arithmetic.specs.declared.Operation.TheVariants.{Add, Sub, Mul, Less, Equal}
 use Rattle.arithmetic.specs.Words.{operation_word, operation_table}
@@ -98,25 +98,25 @@ row_fits (GlobalRow n t e) gs h = after_number Globals n (number t ∷ number e 
 row_fits (TermRow n f) gs h = after_number Terms n (term_slots f) (term_fits f) refl gs h
 
 -- free fields fit number slots, if there are as many
-numbers_fit : (gs : List (List ℕ)) → All Free gs → Fits (replicate (length gs) (number 0)) gs
+numbers_fit : (gs : List (List ℕ)) → AllByRecursion Free gs → Fits (replicate (length gs) (number 0)) gs
 numbers_fit [] free = tt
 numbers_fit (g ∷ gs) free = (free.0, numbers_fit gs free.1)
 
-count_fit : (k : ℕ) (gs : List (List ℕ)) → All Free gs → eqb (length gs) k ≡ true → Fits (replicate k (number 0)) gs
+count_fit : (k : ℕ) (gs : List (List ℕ)) → AllByRecursion Free gs → eqb (length gs) k ≡ true → Fits (replicate k (number 0)) gs
 count_fit k gs free e = subst (λ n. Fits (replicate n (number 0)) gs) (true-eqb (length gs) k (sym e)) (numbers_fit gs free)
 
-type_with : (k : TypeWord) (gs : List (List ℕ)) → All Free gs → type_formed_by (Some k) gs ≡ true → (f : TypeForm) × Fits (type_slots f) (type_word k ∷ gs)
+type_with : (k : TypeWord) (gs : List (List ℕ)) → AllByRecursion Free gs → type_formed_by (Some k) gs ≡ true → (f : TypeForm) × Fits (type_slots f) (type_word k ∷ gs)
 type_with UnitTypeWord gs free e = (UnitType, (refl, count_fit 0 gs free e))
 type_with Int gs free e = (IntType, (refl, count_fit 0 gs free e))
 type_with PairTypeWord gs free e = (PairType 0 0, (refl, count_fit 2 gs free e))
 type_with Fun gs free e = (FunType 0 0, (refl, count_fit 2 gs free e))
 
-method_with : (k : MethodWord) (gs : List (List ℕ)) → All Free gs → method_formed_by (Some k) gs ≡ true → (f : MethodForm) × Fits (method_slots f) (method_word k ∷ gs)
+method_with : (k : MethodWord) (gs : List (List ℕ)) → AllByRecursion Free gs → method_formed_by (Some k) gs ≡ true → (f : MethodForm) × Fits (method_slots f) (method_word k ∷ gs)
 method_with Abstract gs free e = (AbstractMethod 0, (refl, count_fit 1 gs free e))
 method_with Public gs free e = (PublicMethod 0 0, (refl, count_fit 2 gs free e))
 method_with Private gs free e = (PrivateMethod 0 0, (refl, count_fit 2 gs free e))
 
-operation_with : (gs : List (List ℕ)) → All Free gs → operation_formed gs ≡ true → (o : Operation) × Fits (literal (operation_word o) ∷ number 0 ∷ number 0 ∷ []) gs
+operation_with : (gs : List (List ℕ)) → AllByRecursion Free gs → operation_formed gs ≡ true → (o : Operation) × Fits (literal (operation_word o) ∷ number 0 ∷ number 0 ∷ []) gs
 operation_with [] free e = absurd (false_true e)
 operation_with (w ∷ gs) free e = go (keyword_of operation_word operation_table w) refl e
   where
@@ -129,7 +129,7 @@ one_fits [] s h takes = h
 one_fits (f ∷ []) s h takes = (takes f h.0, tt)
 one_fits (f ∷ g ∷ gs) s h takes = absurd h.1
 
-term_with : (k : TermWord) (gs : List (List ℕ)) → All Free gs → parts_formed k gs ≡ true → (f : TermForm) × Fits (term_slots f) (term_word k ∷ gs)
+term_with : (k : TermWord) (gs : List (List ℕ)) → AllByRecursion Free gs → parts_formed k gs ≡ true → (f : TermForm) × Fits (term_slots f) (term_word k ∷ gs)
 term_with UnitWord gs free e = (UnitTerm, (refl, count_fit 0 gs free e))
 term_with Num gs free e = (NumTerm (pos 0), (refl, one_fits gs (word (pos 0)) (count_fit 1 gs free e) (λ f h. h)))
 term_with Op gs free e = let p = operation_with gs free e in (OpTerm p.0 0 0, (refl, p.1))
@@ -146,7 +146,7 @@ term_with App gs free e = (AppTerm 0 0, (refl, count_fit 2 gs free e))
 term_with If gs free e = (IfTerm 0 0 0, (refl, count_fit 3 gs free e))
 term_with Let gs free e = (LetTerm 0 0 0, (refl, count_fit 3 gs free e))
 
-type_form : (gs : List (List ℕ)) → All Free gs → type_formed gs ≡ true → (f : TypeForm) × Fits (type_slots f) gs
+type_form : (gs : List (List ℕ)) → AllByRecursion Free gs → type_formed gs ≡ true → (f : TypeForm) × Fits (type_slots f) gs
 type_form [] free e = absurd (false_true e)
 type_form (w ∷ gs) free e = go (keyword_of type_word type_table w) refl e
   where
@@ -154,7 +154,7 @@ type_form (w ∷ gs) free e = go (keyword_of type_word type_table w) refl e
     go None found h = absurd (false_true h)
     go (Some k) found h = subst (λ v. (f : TypeForm) × Fits (type_slots f) (v ∷ gs)) (keyword_found type_word type_table w k found) (type_with k gs free.1 h)
 
-method_form : (gs : List (List ℕ)) → All Free gs → method_formed gs ≡ true → (f : MethodForm) × Fits (method_slots f) gs
+method_form : (gs : List (List ℕ)) → AllByRecursion Free gs → method_formed gs ≡ true → (f : MethodForm) × Fits (method_slots f) gs
 method_form [] free e = absurd (false_true e)
 method_form (w ∷ gs) free e = go (keyword_of method_word method_table w) refl e
   where
@@ -162,7 +162,7 @@ method_form (w ∷ gs) free e = go (keyword_of method_word method_table w) refl 
     go None found h = absurd (false_true h)
     go (Some k) found h = subst (λ v. (f : MethodForm) × Fits (method_slots f) (v ∷ gs)) (keyword_found method_word method_table w k found) (method_with k gs free.1 h)
 
-term_form : (gs : List (List ℕ)) → All Free gs → term_formed gs ≡ true → (f : TermForm) × Fits (term_slots f) gs
+term_form : (gs : List (List ℕ)) → AllByRecursion Free gs → term_formed gs ≡ true → (f : TermForm) × Fits (term_slots f) gs
 term_form [] free e = absurd (false_true e)
 term_form (w ∷ gs) free e = go (keyword_of term_word term_table w) refl e
   where
@@ -170,14 +170,14 @@ term_form (w ∷ gs) free e = go (keyword_of term_word term_table w) refl e
     go None found h = absurd (false_true h)
     go (Some k) found h = subst (λ v. (f : TermForm) × Fits (term_slots f) (v ∷ gs)) (keyword_found term_word term_table w k found) (term_with k gs free.1 h)
 
-row_with : (s : Section) (n : List ℕ) (gs : List (List ℕ)) → Free n → All Free gs → section_formed s gs ≡ true → (row : Row) × Fits (slots row) (section_word s ∷ n ∷ gs)
+row_with : (s : Section) (n : List ℕ) (gs : List (List ℕ)) → Free n → AllByRecursion Free gs → section_formed s gs ≡ true → (row : Row) × Fits (slots row) (section_word s ∷ n ∷ gs)
 row_with Types n gs here free e = let p = type_form gs free e in (TypeRow 0 p.0, (refl, (here, p.1)))
 row_with Variables n gs here free e = (VariableRow 0 0, (refl, (here, count_fit 1 gs free e)))
 row_with Methods n gs here free e = let p = method_form gs free e in (MethodRow 0 p.0, (refl, (here, p.1)))
 row_with Globals n gs here free e = (GlobalRow 0 0 0, (refl, (here, count_fit 2 gs free e)))
 row_with Terms n gs here free e = let p = term_form gs free e in (TermRow 0 p.0, (refl, (here, p.1)))
 
-pub row_form : (gs : List (List ℕ)) → All Free gs → has_form gs ≡ true → (row : Row) × Fits (slots row) gs
+pub row_form : (gs : List (List ℕ)) → AllByRecursion Free gs → has_form gs ≡ true → (row : Row) × Fits (slots row) gs
 row_form [] free e = absurd (false_true e)
 row_form (s ∷ []) free e = absurd (false_true e)
 row_form (s ∷ n ∷ gs) free e = go (keyword_of section_word section_table s) refl e

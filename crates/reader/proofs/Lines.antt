@@ -1,7 +1,7 @@
 -- What the fields of a line tell of the line. Assumes nothing.
 use Rattle.std.proofs.Common.{◌≡◌, ℕ, ◌^◌, ◌<◌, ◌≤◌, Bool, true, false, not, ◌&&◌, eqb, ◌⊎◌, List, [], ◌∷◌, ◌++◌, map, length, Some, None, codes, Option, sym, refl, ap, ◌∙◌, subst, inl, inr, ⊎_elim, arith, eq-eqb, false-eqb}
 use lib.Signed.{mag}
-use Rattle.std.specs.List.{AllByRecursion as All}
+use Rattle.std.specs.List.{AllByRecursion}
 use Rattle.std.proofs.ByRecursion.{All-append}
 use Rattle.std.proofs.lemmas.List.{append_cancel_right}
 use Rattle.std.proofs.str.Laws.{order}
@@ -170,7 +170,7 @@ unended_least room before line lacks = record { here = λ f. no_feed (commas f.1
     smaller Repeat lt f = absurd (omega arith)
 
 -- whether numbers are in range can be told
-in_range_told : (ss : List Slot) → ((All InRange ss → ⊥) → ⊥) → All InRange ss
+in_range_told : (ss : List Slot) → ((AllByRecursion InRange ss → ⊥) → ⊥) → AllByRecursion InRange ss
 in_range_told [] h = tt
 in_range_told (literal w ∷ ss) h = (tt, in_range_told ss (λ k. h (λ a. k a.1)))
 in_range_told (number n ∷ ss) h = (⊎_elim (λ lt. absurd (h (λ a. let small = a.0 in omega arith))) (λ le. le) (order 65535 n), in_range_told ss (λ k. h (λ a. k a.1)))
@@ -181,7 +181,7 @@ module _ {before : List Row} (row : Row) (good : NoneOf (RowFault true before ro
   in_range : NumbersInRange row
   in_range = in_range_told (slots row) (good Number)
 
-  fields_free : All Free (map written (slots row))
+  fields_free : AllByRecursion Free (map written (slots row))
   fields_free = written_all_free (slots row) (slots_free row) in_range
 
   body_lacks : Lacks 10 (commas (map written (slots row)))

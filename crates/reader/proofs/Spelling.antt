@@ -2,7 +2,7 @@
 use Rattle.std.proofs.Common.{◌≡◌, ℕ, suc, ◌<◌, ◌≤◌, Bool, true, false, eqb, List, [], ◌∷◌, ◌++◌, map, length, ℤ, pos, Some, None, codes, decimal, Option, sym, refl, ap, ◌∙◌, subst, arith, w32, SFits, eq-eqb, true-eqb}
 use Rattle.std.specs.Option.{option_map}
 use Rattle.std.specs.Fmt.{signed_decimal}
-use Rattle.std.specs.List.{AllByRecursion as All}
+use Rattle.std.specs.List.{AllByRecursion}
 use Rattle.arithmetic.specs.declared.Operation.{Operation}
 use Rattle.arithmetic.specs.declared.Operation.TheVariants.{Add, Sub, Mul, Less, Equal}
 use Rattle.arithmetic.specs.Words.{operation_word, operation_table}
@@ -32,13 +32,13 @@ use Rattle.reader.specs.Words.{type_word, type_table, method_word, method_table,
 use Rattle.reader.specs.Fields.{of_two, of_three, at_end, one_word, type_parts, type_by, type_of, method_parts, method_by, method_of, operation_by, operation_of, term_parts, term_by, term_of, row_parts, row_by, row_of, type_formed_by, type_formed, method_formed_by, method_formed, operation_formed_by, operation_formed, parts_formed, term_formed_by, term_formed, section_formed, formed_by, has_form}
 
 -- the fields of a form spell it
-type_written : (f : TypeForm) → All InRange (type_slots f) → type_of (map written (type_slots f)) ≡ Some f
+type_written : (f : TypeForm) → AllByRecursion InRange (type_slots f) → type_of (map written (type_slots f)) ≡ Some f
 type_written UnitType h = refl
 type_written IntType h = refl
 type_written (PairType a b) h = rw (number_written a h.1.0, number_written b h.1.1.0)
 type_written (FunType a b) h = rw (number_written a h.1.0, number_written b h.1.1.0)
 
-method_written : (f : MethodForm) → All InRange (method_slots f) → method_of (map written (method_slots f)) ≡ Some f
+method_written : (f : MethodForm) → AllByRecursion InRange (method_slots f) → method_of (map written (method_slots f)) ≡ Some f
 method_written (AbstractMethod t) h = rw (number_written t h.1.0)
 method_written (PublicMethod t e) h = rw (number_written t h.1.0, number_written e h.1.1.0)
 method_written (PrivateMethod t e) h = rw (number_written t h.1.0, number_written e h.1.1.0)
@@ -50,7 +50,7 @@ operation_found Mul = refl
 operation_found Less = refl
 operation_found Equal = refl
 
-term_written : (f : TermForm) → All InRange (term_slots f) → term_of (map written (term_slots f)) ≡ Some f
+term_written : (f : TermForm) → AllByRecursion InRange (term_slots f) → term_of (map written (term_slots f)) ≡ Some f
 term_written UnitTerm h = refl
 term_written (NumTerm i) h = rw (word_written i h.1.0)
 term_written (VarTerm a) h = rw (number_written a h.1.0)
@@ -99,7 +99,7 @@ word_only (f ∷ g ∷ fs) z e = absurd (none_some z e)
 
 -- slots whose numbers are in range, and that the fields are written by
 abbrev WrittenBy : List Slot → List (List ℕ) → Type 0
-WrittenBy ss fs = All InRange ss × (map written ss ≡ fs)
+WrittenBy ss fs = AllByRecursion InRange ss × (map written ss ≡ fs)
 
 -- the fields after a word, where they are numbers
 after_one : {Y : Type 0} (make : ℕ → Y) (slots_of : Y → List Slot) (w : List ℕ) → ((a : ℕ) → slots_of (make a) ≡ literal w ∷ number a ∷ []) → (fs : List (List ℕ)) (y : Y) → option_map make (one_number fs) ≡ Some y → WrittenBy (slots_of y) (w ∷ fs)

@@ -1,6 +1,6 @@
 -- What a tally tells of the rows that it is the tally of. Assumes nothing.
 use Rattle.std.proofs.Common.{◌≡◌, ℕ, ◌+◌, ◌<◌, ◌≤◌, Bool, true, false, cond, ◌&&◌, eqb, ltb, ◌≢◌, ◌⊎◌, List, [], ◌∷◌, ◌++◌, length, get_or, set, sym, refl, ap, ◌∙◌, subst, inl, inr, ⊎_elim, add-zero, add_assoc, zero-add, arith, lit<, length-append, ltb-true, lt-ltb}
-use Rattle.std.specs.List.{AllByRecursion as All}
+use Rattle.std.specs.List.{AllByRecursion}
 use Rattle.std.proofs.lemmas.List.{get_or_append_left, get_or_push, get_or-set_same, get_or-set_other}
 use Rattle.std.proofs.lemmas.Bool.{and_parts, and_from}
 use Rattle.std.proofs.str.Laws.{order}
@@ -115,14 +115,14 @@ module _ (before : List Row) (c : Counts) (table : List ℕ) (row : Row) (h : Ta
     none_later = sum_none c (section row) (λ s p. h.counts s ∙ o.no_later_section s p);
   }
 
-  references_hold : (ps : List (Section × ℕ)) → all_below c ps ≡ true → All (λ p. p.1 < count p.0 before) ps
+  references_hold : (ps : List (Section × ℕ)) → all_below c ps ≡ true → AllByRecursion (λ p. p.1 < count p.0 before) ps
   references_hold [] e = tt
   references_hold (p ∷ ps) e =
       let parts = and_parts (ltb p.1 (counted c p.0)) (all_below c ps) e in
       let below = ltb-true p.1 (counted c p.0) parts.0 in
       (omega (arith, below, h.counts p.0), references_hold ps parts.1)
 
-  references_told : (ps : List (Section × ℕ)) → All (λ p. p.1 < count p.0 before) ps → all_below c ps ≡ true
+  references_told : (ps : List (Section × ℕ)) → AllByRecursion (λ p. p.1 < count p.0 before) ps → all_below c ps ≡ true
   references_told [] a = refl
   references_told (p ∷ ps) a =
       let below : p.1 < counted c p.0 = omega (arith, a.0, h.counts p.0) in

@@ -1,6 +1,6 @@
 -- The faults of a row: for each, its number and when it holds. Assumes nothing.
 use Rattle.std.specs.Prelude.{◌≡◌, ℕ, ◌+◌, ◌<◌, ◌≤◌, Bool, true, false, ◌⊎◌, List, [], ◌∷◌, ◌++◌, map, length, take, slice_index_or}
-use Rattle.std.specs.List.{AllByRecursion as All}
+use Rattle.std.specs.List.{AllByRecursion}
 use Rattle.faults.specs.declared.TextFault.{TextFault}
 use Rattle.faults.specs.declared.TextFault.TheVariants.{Form, Number, Order, Reference, Limit, Repeat}
 use Rattle.faults.specs.Least.{LeastOf}
@@ -16,7 +16,7 @@ use Rattle.rows.specs.Types.{leaves, tree, types}
 
 -- each number of the row is in its range
 abbrev pub NumbersInRange : Row → Type 0
-NumbersInRange row = All InRange (slots row)
+NumbersInRange row = AllByRecursion InRange (slots row)
 
 -- no row of a later section stands before, and the running number counts the rows of its section
 pub record InOrder (before : List Row) (row : Row) : Type 0 where
@@ -25,7 +25,7 @@ pub record InOrder (before : List Row) (row : Row) : Type 0 where
 
 -- each reference names an earlier row
 abbrev pub RefersBack : List Row → Row → Type 0
-RefersBack before row = All (λ p. p.1 < count p.0 before) (references row)
+RefersBack before row = AllByRecursion (λ p. p.1 < count p.0 before) (references row)
 
 -- the leaves of the type that a row lists; other rows have none
 abbrev pub row_leaves : List Row → Row → ℕ

@@ -2,7 +2,7 @@
 ghost use Rattle.rows.specs.Faults.{NumbersInRange};
 ghost use Rattle.rows.specs.Printing.{method_slots, term_slots, type_slots};
 ghost use Rattle.std.specs.Prelude.{MatchBool};
-ghost use Rattle.std.specs.List.{AllByRecursion as All};
+ghost use Rattle.std.specs.List.{AllByRecursion};
 ghost use Rattle.text.specs.Slots.{InRange};
 
 use super::forms::{MethodForm, Row, TermForm, TypeForm};
@@ -13,7 +13,7 @@ const LARGEST: u32 = 65535;
 impl TypeForm {
     // Whether each number of a type is in its range.
     fn in_range(self) -> bool
-        ensures each_number { MatchBool result (All InRange (type_slots self)) (All InRange (type_slots self) → ⊥) }
+        ensures each_number { MatchBool result (AllByRecursion InRange (type_slots self)) (AllByRecursion InRange (type_slots self) → ⊥) }
     {
         match self {
             TypeForm::Unit | TypeForm::Int => true,
@@ -25,7 +25,7 @@ impl TypeForm {
 impl MethodForm {
     // Whether each number of a method is in its range.
     fn in_range(self) -> bool
-        ensures each_number { MatchBool result (All InRange (method_slots self)) (All InRange (method_slots self) → ⊥) }
+        ensures each_number { MatchBool result (AllByRecursion InRange (method_slots self)) (AllByRecursion InRange (method_slots self) → ⊥) }
     {
         match self {
             MethodForm::Abstract(of) => of <= LARGEST,
@@ -39,7 +39,7 @@ impl MethodForm {
 impl TermForm {
     // Whether each number of a term is in its range.
     fn in_range(self) -> bool
-        ensures each_number { MatchBool result (All InRange (term_slots self)) (All InRange (term_slots self) → ⊥) }
+        ensures each_number { MatchBool result (AllByRecursion InRange (term_slots self)) (AllByRecursion InRange (term_slots self) → ⊥) }
     {
         match self {
             TermForm::Unit | TermForm::Num(_) => true,

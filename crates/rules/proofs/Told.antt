@@ -2,7 +2,7 @@
 use Rattle.std.proofs.Common.{◌≡◌, ℕ, zero, suc, ◌+◌, ◌^◌, ◌<◌, ◌≤◌, Bool, true, false, List, [], ◌∷◌, ◌++◌, length, ℤ, pos, Some, None, codes, decimal, Option as Maybe, sym, refl, ap, ◌∙◌, subst, append_assoc, arith, length-append, w32, SFits}
 use mathlib.Core.Option.{Option, none, some}
 use Rattle.std.specs.Fmt.{signed_decimal}
-use Rattle.std.specs.List.{AllByRecursion as All}
+use Rattle.std.specs.List.{AllByRecursion}
 use Rattle.std.proofs.ByRecursion.{All-append}
 use Rattle.text.specs.Slots
 use Rattle.text.specs.Slots.{Lacks, Free, commas, line_of}
@@ -34,13 +34,13 @@ first_feed (x ∷ xs) (y ∷ ys) t u h k e =
     let p = first_feed xs ys t u h.1 k.1 tails in
     ((λ i. heads i ∷ p.0 i), p.1)
 
-commas_lack : (fs : List (List ℕ)) → All Free fs → Lacks 10 (commas fs)
+commas_lack : (fs : List (List ℕ)) → AllByRecursion Free fs → Lacks 10 (commas fs)
 commas_lack [] h = tt
 commas_lack (f ∷ []) h = h.0.1
 commas_lack (f ∷ g ∷ fs) h = All-append (λ b. b ≡ 10 → ⊥) f (44 ∷ commas (g ∷ fs)) h.0.1 ((λ e. omega arith), commas_lack (g ∷ fs) h.1)
 
 -- lines with the same bytes have the same fields, and so has what follows
-line_tells : (f g : List ℕ) (fs gs : List (List ℕ)) (x y : List ℕ) → All Free (f ∷ fs) → All Free (g ∷ gs) → line_of (f ∷ fs) ++ x ≡ line_of (g ∷ gs) ++ y → (◌≡◌ {A = List (List ℕ)} (f ∷ fs) (g ∷ gs)) × (x ≡ y)
+line_tells : (f g : List ℕ) (fs gs : List (List ℕ)) (x y : List ℕ) → AllByRecursion Free (f ∷ fs) → AllByRecursion Free (g ∷ gs) → line_of (f ∷ fs) ++ x ≡ line_of (g ∷ gs) ++ y → (◌≡◌ {A = List (List ℕ)} (f ∷ fs) (g ∷ gs)) × (x ≡ y)
 line_tells f g fs gs x y h k e =
     let d : commas (f ∷ fs) ++ (10 ∷ x) ≡ commas (g ∷ gs) ++ (10 ∷ y) = sym (append_assoc (commas (f ∷ fs)) (10 ∷ []) x) ∙ e ∙ append_assoc (commas (g ∷ gs)) (10 ∷ []) y in
     let p = first_feed (commas (f ∷ fs)) (commas (g ∷ gs)) x y (commas_lack (f ∷ fs) h) (commas_lack (g ∷ gs) k) d in
@@ -78,7 +78,7 @@ module _ (A : Meaning) (closed : Closed A) where
   fits w h = closed.lawful_fits w (closed.may_say_lawful w h)
 
   -- the leaves of a value that the host says have no comma and no line feed
-  leaves_free : (θ : Tree) (R : List Entry) (v : Value) (R' : List Entry) → Says A θ R v R' → length R' ≤ 65535 → All Free (leaf_fields v)
+  leaves_free : (θ : Tree) (R : List Entry) (v : Value) (R' : List Entry) → Says A θ R v R' → length R' ≤ 65535 → AllByRecursion Free (leaf_fields v)
   leaves_free θ R v R' rule.says_unit few = ((((λ e. omega arith), tt), ((λ e. omega arith), tt)), tt)
   leaves_free θ R v R' (rule.says_word w h) few = (written_free (Slots.word w) (fits w h) (word_no_literal w), tt)
   leaves_free θ R v R' (rule.says_pair {θ = ρ} {θ' = σ} {R' = R₁} {v = a} {w = b} h k) few =
@@ -150,13 +150,13 @@ module _ (G : Game) (closed : Closed G.meaning) where
   Few p = length (names_at p) ≤ 65535
 
   module _ (K : List Pending) (l : ℕ) (μ : Memory) (P : List ℕ) where
-    call_fields_free : (a : Pass) (q : Position) → Few (host_turn K l μ P) → Few q → (c : CallStep G K l μ P a q) → All Free (pass_fields (host_call c.0 c.4))
+    call_fields_free : (a : Pass) (q : Position) → Few (host_turn K l μ P) → Few q → (c : CallStep G K l μ P a q) → AllByRecursion Free (pass_fields (host_call c.0 c.4))
     call_fields_free a q few few' c =
         let low = at_low μ.names c.0 _ c.6 in
         let few'' : length c.5 ≤ 65535 = subst Few c.9 few' in
         (host_free, (call_free, (name_free c.0 (omega arith), leaves_free G.meaning closed c.2 μ.names c.4 c.5 c.7 few'')))
 
-    answer_fields_free : (a : Pass) (q : Position) → Few (host_turn K l μ P) → Few q → (c : AnswerStep G K l μ P a q) → All Free (pass_fields (host_answer c.0 c.4))
+    answer_fields_free : (a : Pass) (q : Position) → Few (host_turn K l μ P) → Few q → (c : AnswerStep G K l μ P a q) → AllByRecursion Free (pass_fields (host_answer c.0 c.4))
     answer_fields_free a q few few' c =
         let low = at_low μ.names c.0 _ c.7 in
         let few'' : length c.5 ≤ 65535 = subst Few c.11 few' in

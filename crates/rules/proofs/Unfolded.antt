@@ -2,7 +2,7 @@
 use Rattle.std.proofs.Common.{◌≡◌, ℕ, zero, suc, ◌+◌, ◌<◌, ◌≤◌, Bool, true, false, eqb, ◌⊎◌, List, [], ◌∷◌, ◌++◌, length, get_or, take, ℤ, Some, None, Option, sym, refl, ap, ◌∙◌, subst, inl, inr, append_assoc, append-nil, arith, length-append, eqb-true}
 use mathlib.Core.List.{Memᴰ}
 use borrow.Author.Tests.{eqb-false}
-use Rattle.std.specs.List.{slice_get, AllByRecursion as All}
+use Rattle.std.specs.List.{slice_get, AllByRecursion}
 use Rattle.std.proofs.lemmas.List.{take-append-le, take_all, get_or_at}
 use Rattle.std.proofs.str.Laws.{order}
 use Rattle.arithmetic.specs.Meaning.{Meaning}
@@ -44,11 +44,11 @@ good_from b (r ∷ rs) h = (here, good_from (b ++ (r ∷ [])) rs (subst Faultles
         subst (λ (x : List Row). NoneOf (RowFault true x r)) before (h (length b) r inside (get_or_at b r rs r (length b) refl))
 
 -- what cannot fail holds, for references
-all_stable : (b : List Row) (ps : List (Section × ℕ)) → ((All (λ p. p.1 < count p.0 b) ps → ⊥) → ⊥) → All (λ p. p.1 < count p.0 b) ps
+all_stable : (b : List Row) (ps : List (Section × ℕ)) → ((AllByRecursion (λ p. p.1 < count p.0 b) ps → ⊥) → ⊥) → AllByRecursion (λ p. p.1 < count p.0 b) ps
 all_stable b [] h = tt
 all_stable b (p ∷ ps) h = go (all_stable b ps (λ no. h (λ both. no both.1))) (order p.1 (count p.0 b))
   where
-    go : All (λ q. q.1 < count q.0 b) ps → (p.1 < count p.0 b) ⊎ (count p.0 b ≤ p.1) → All (λ q. q.1 < count q.0 b) (p ∷ ps)
+    go : AllByRecursion (λ q. q.1 < count q.0 b) ps → (p.1 < count p.0 b) ⊎ (count p.0 b ≤ p.1) → AllByRecursion (λ q. q.1 < count q.0 b) (p ∷ ps)
     go rest (inl lt) = (lt, rest)
     go rest (inr ge) = absurd (h (λ both. let x = both.0 in omega arith))
 

@@ -1,6 +1,6 @@
 -- Fields that fit slots, and the lines that slots are printed as. Assumes nothing.
 use Rattle.std.proofs.Common.{◌≡◌, ℕ, suc, Bool, true, false, not, ◌&&◌, eqb, List, [], ◌∷◌, ◌++◌, map, length, sym, refl, ap, ◌∙◌, subst, arith, eq-eqb}
-use Rattle.std.specs.List.{AllByRecursion as All}
+use Rattle.std.specs.List.{AllByRecursion}
 use Rattle.std.proofs.ByRecursion.{All-append}
 use Rattle.std.proofs.lemmas.Bool.{and_parts, both_ways}
 use Rattle.text.specs.Slots.{Slot, literal, number, word, written, InRange, Lacks, Free, Fits, commas}
@@ -42,7 +42,7 @@ words_free (literal w ∷ ss) = free_test w && words_free ss
 words_free (number n ∷ ss) = words_free ss
 words_free (word z ∷ ss) = words_free ss
 
-pub fits_free : (ss : List Slot) (fs : List (List ℕ)) → words_free ss ≡ true → Fits ss fs → All Free fs
+pub fits_free : (ss : List Slot) (fs : List (List ℕ)) → words_free ss ≡ true → Fits ss fs → AllByRecursion Free fs
 fits_free [] [] e h = tt
 fits_free [] (f ∷ fs) e h = absurd h
 fits_free (s ∷ ss) [] e h = absurd h
@@ -53,26 +53,26 @@ fits_free (number n ∷ ss) (f ∷ fs) e h = (h.0, fits_free ss fs e h.1)
 fits_free (word z ∷ ss) (f ∷ fs) e h = (h.0, fits_free ss fs e h.1)
 
 -- slots whose words are free and whose numbers are in range are written freely
-pub written_all_free : (ss : List Slot) → words_free ss ≡ true → All InRange ss → All Free (map written ss)
+pub written_all_free : (ss : List Slot) → words_free ss ≡ true → AllByRecursion InRange ss → AllByRecursion Free (map written ss)
 written_all_free [] e h = tt
 written_all_free (literal w ∷ ss) e h = let p = and_parts (free_test w) (words_free ss) e in (free_by_test w p.0, written_all_free ss p.1 h.1)
 written_all_free (number n ∷ ss) e h = (written_free (number n) h.0 (λ bs same. let z : ◌≡◌ {A = ℕ} 0 1 = cc in absurd (omega arith)), written_all_free ss e h.1)
 written_all_free (word z ∷ ss) e h = (written_free (word z) h.0 (λ bs same. let z : ◌≡◌ {A = ℕ} 0 1 = cc in absurd (omega arith)), written_all_free ss e h.1)
 
 -- the printing of slots whose numbers are in range fits them
-pub written_fits : (ss : List Slot) → All InRange ss → Fits ss (map written ss)
+pub written_fits : (ss : List Slot) → AllByRecursion InRange ss → Fits ss (map written ss)
 written_fits [] h = tt
 written_fits (literal w ∷ ss) h = (refl, written_fits ss h.1)
 written_fits (number n ∷ ss) h = (written_free (number n) h.0 (λ bs same. let z : ◌≡◌ {A = ℕ} 0 1 = cc in absurd (omega arith)), written_fits ss h.1)
 written_fits (word z ∷ ss) h = (written_free (word z) h.0 (λ bs same. let z : ◌≡◌ {A = ℕ} 0 1 = cc in absurd (omega arith)), written_fits ss h.1)
 
 -- free fields that are parted by commas have no line feed
-pub commas_lack : (fs : List (List ℕ)) → All Free fs → Lacks 10 (commas fs)
+pub commas_lack : (fs : List (List ℕ)) → AllByRecursion Free fs → Lacks 10 (commas fs)
 commas_lack [] h = tt
 commas_lack (f ∷ []) h = h.0.1
 commas_lack (f ∷ g ∷ fs) h =
     All-append (λ b. b ≡ 10 → ⊥) f (44 ∷ commas (g ∷ fs)) h.0.1 ((λ e. omega arith), commas_lack (g ∷ fs) h.1)
 
-pub cut_fields : (fs : List (List ℕ)) → All Free fs → (fs ≡ [] → ⊥) → cut (commas fs) ≡ fs
+pub cut_fields : (fs : List (List ℕ)) → AllByRecursion Free fs → (fs ≡ [] → ⊥) → cut (commas fs) ≡ fs
 cut_fields [] free some = absurd (some refl)
 cut_fields (f ∷ fs) free some = cut_commas f fs free

@@ -3,7 +3,7 @@ use Rattle.std.proofs.Common.{◌≡◌, ℕ, suc, ◌^◌, ◌<◌, ◌≤◌, 
 use lib.Signed.{mag}
 use Rattle.std.specs.Int.{IsInRange}
 use Rattle.std.specs.Fmt.{signed_decimal}
-use Rattle.std.specs.List.{ContainsAt as Has, AllByRecursion as All}
+use Rattle.std.specs.List.{ContainsAt as Has, AllByRecursion}
 use Rattle.std.specs.Str.{all_ascii_digits, bytes_eq}
 use Rattle.std.proofs.lemmas.Slice.Eq.{bytes_eq-Decides}
 use Rattle.std.proofs.lemmas.List.{same_from_push}
@@ -40,13 +40,13 @@ unfolding cut
 commas_cut [] = refl
 commas_cut (b ∷ bs) = commas_in_front (eqb b 44) b (cut bs) (eqb-true b 44) (cut_some bs) ∙ ap (λ t. b ∷ t) (commas_cut bs)
 
-in_front_free : (t : Bool) (b : ℕ) (fs : List (List ℕ)) → (t ≡ false → b ≡ 44 → ⊥) → (b ≡ 10 → ⊥) → All Free fs → All Free (in_front t b fs)
+in_front_free : (t : Bool) (b : ℕ) (fs : List (List ℕ)) → (t ≡ false → b ≡ 44 → ⊥) → (b ≡ 10 → ⊥) → AllByRecursion Free fs → AllByRecursion Free (in_front t b fs)
 in_front_free true b fs comma feed h = ((tt, tt), h)
 in_front_free false b [] comma feed h = (((comma refl, tt), (feed, tt)), tt)
 in_front_free false b (f ∷ fs) comma feed h = (((comma refl, h.0.0), (feed, h.0.1)), h.1)
 
 -- no field of bytes without a line feed has a comma or a line feed
-pub cut_free : (bs : List ℕ) → Lacks 10 bs → All Free (cut bs)
+pub cut_free : (bs : List ℕ) → Lacks 10 bs → AllByRecursion Free (cut bs)
 unfolding cut
 cut_free [] h = ((tt, tt), tt)
 cut_free (b ∷ bs) h = in_front_free (eqb b 44) b (cut bs) (eqb-false b 44) h.0 (cut_free bs h.1)
@@ -64,16 +64,16 @@ cut_last [] h = refl
 cut_last (b ∷ f) h = rw (ne_eqb b 44 h.0, cut_last f h.1) refl
 
 -- free fields that are parted by commas are found again
-pub cut_commas : (f : List ℕ) (fs : List (List ℕ)) → All Free (f ∷ fs) → cut (commas (f ∷ fs)) ≡ f ∷ fs
+pub cut_commas : (f : List ℕ) (fs : List (List ℕ)) → AllByRecursion Free (f ∷ fs) → cut (commas (f ∷ fs)) ≡ f ∷ fs
 cut_commas f [] h = cut_last f h.0.0
 cut_commas f (g ∷ fs) h = cut_front f (commas (g ∷ fs)) h.0.0 ∙ ap (λ t. f ∷ t) (cut_commas g fs h.1)
 
 -- lists of free fields that are parted by commas to the same bytes are the same
-pub commas_same : (f g : List ℕ) (fs gs : List (List ℕ)) → All Free (f ∷ fs) → All Free (g ∷ gs) → commas (f ∷ fs) ≡ commas (g ∷ gs) → ◌≡◌ {A = List (List ℕ)} (f ∷ fs) (g ∷ gs)
+pub commas_same : (f g : List ℕ) (fs gs : List (List ℕ)) → AllByRecursion Free (f ∷ fs) → AllByRecursion Free (g ∷ gs) → commas (f ∷ fs) ≡ commas (g ∷ gs) → ◌≡◌ {A = List (List ℕ)} (f ∷ fs) (g ∷ gs)
 commas_same f g fs gs h k e = sym (cut_commas f fs h) ∙ ap cut e ∙ cut_commas g gs k
 
 -- and so are those with the same line
-pub line_same : (f g : List ℕ) (fs gs : List (List ℕ)) → All Free (f ∷ fs) → All Free (g ∷ gs) → line_of (f ∷ fs) ≡ line_of (g ∷ gs) → ◌≡◌ {A = List (List ℕ)} (f ∷ fs) (g ∷ gs)
+pub line_same : (f g : List ℕ) (fs gs : List (List ℕ)) → AllByRecursion Free (f ∷ fs) → AllByRecursion Free (g ∷ gs) → line_of (f ∷ fs) ≡ line_of (g ∷ gs) → ◌≡◌ {A = List (List ℕ)} (f ∷ fs) (g ∷ gs)
 line_same f g fs gs h k e = commas_same f g fs gs h k (same_from_push (commas (f ∷ fs)) (commas (g ∷ gs)) 10 10 e).0
 
 -- nothing is not something

@@ -2,7 +2,7 @@
 use Rattle.std.specs.Prelude.{◌≡◌, ℕ, ◌≤◌, List, [], ◌∷◌, ◌++◌, map, ℤ, decimal, FitsSigned, ◌≢◌}
 use Rattle.std.specs.Int.{w32}
 use Rattle.std.specs.Fmt.{signed_decimal}
-use Rattle.std.specs.List.{AllByRecursion as All}
+use Rattle.std.specs.List.{AllByRecursion}
 
 -- one field of a line: a word that is given, a number, or a signed word
 pub data Slot : Type 0 where
@@ -24,7 +24,7 @@ InRange (word z) = FitsSigned w32 z
 
 -- no byte of the list is c
 abbrev pub Lacks : ℕ → List ℕ → Type 0
-Lacks c bs = All (λ b. b ≢ c) bs
+Lacks c bs = AllByRecursion (λ b. b ≢ c) bs
 
 -- no byte of the list is a comma or a line feed
 abbrev pub Free : List ℕ → Type 0
