@@ -10,7 +10,7 @@ use Rattle.rules.specs.Game.{Game, Pending, Position, library_runs, host_turn, s
 use Rattle.rules.specs.Plays.{Run, Ends, Ending, Move, call, answer, words, four, host_moves, Play, FullPlay, FullFrom}
 use Rattle.rules.specs.Plays as play
 use Rattle.rules.specs.Enumeration.{Next, goes_on, hands, fails, deep, no_step, library_next, Reply, reply, replies, Played, played, after, after_each, after_next, at_turn, plays_from}
-use Rattle.rules.specs.Laws.{Goes_on, NeverStuck, PlaysExtend}
+use Rattle.rules.specs.Laws.{GoesOn, NeverStuck, PlaysExtend}
 use Rattle.rules.proofs.Listed.{only}
 use Rattle.rules.proofs.Sayings.{replies_are}
 use Rattle.rules.proofs.Nexts.{did, NextIs, step_next, fails_next, deep_next, IsSo, next_so}
@@ -56,13 +56,13 @@ module _ (G : Game) where
   ends_some p t e s lt (play.too_deep _ f) = is_some p deep (deep_next G p f) tt
   ends_some p t e s lt (play.hands_over _) = tt
 
-  next_some : (p : Position) (t : ℕ) → t < G.bounds.steps → Goes_on G p t → SomeNext p
+  next_some : (p : Position) (t : ℕ) → t < G.bounds.steps → GoesOn G p t → SomeNext p
   next_some p t lt (inl x) = ends_some p t x.0 x.1 lt x.2
   next_some p t lt (inr x) = is_some p (did x.0 x.1) (step_next G p x.1 x.0 x.2) (did_some x.0 x.1)
 
   -- from a position on, nothing is stuck
   abbrev FreeFrom : Position → ℕ → Type 0
-  FreeFrom p t = (trace : List Pass) (q : Position) (u : ℕ) → Run G p t trace q u → Goes_on G q u
+  FreeFrom p t = (trace : List Pass) (q : Position) (u : ℕ) → Run G p t trace q u → GoesOn G q u
 
   module _ (list : WordList) (law : Listed G.meaning list) where
     abbrev SomePlay : ℕ → ℕ → Position → Type 0

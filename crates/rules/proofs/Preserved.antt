@@ -18,7 +18,7 @@ use Rattle.rules.specs.Game as rule
 use Rattle.rules.specs.Plays.{Run, Ends, Ending}
 use Rattle.rules.specs.Plays as play
 use Rattle.rules.specs.Enumeration.{Next, goes_on, hands, fails, deep, no_step, answering, bounded, continued, next_by, library_next}
-use Rattle.rules.specs.Laws.{Goes_on, names_at}
+use Rattle.rules.specs.Laws.{GoesOn, names_at}
 use Rattle.rules.proofs.Exact.{parts_are, MadeOf}
 use Rattle.rules.proofs.Nexts.{IsSo, next_so}
 use Rattle.rules.proofs.Typed.{Typed, Grows, weaken, Takes, plugged, Functions, Fine, fine, body_replaced}
@@ -330,20 +330,20 @@ module _ (G : Game) (V : ℕ → Tree) (Γ : List Tree) (closed : Closed G.meani
   next_some K M μ P ok e =
       parts_some K M μ P ok.0 ok.1 (parts M) (parts_are M) ok.2 ok.3 (fine V Γ A ok.0 (functions V Γ A ok.0 μ.names ok.2.0) M ok.1 ok.3) ok.4 e
 
-  next_goes : (p : Position) (t : ℕ) (n : Next) → t < G.bounds.steps → IsSo G p n → (n ≡ no_step → ⊥) → Goes_on G p t
+  next_goes : (p : Position) (t : ℕ) (n : Next) → t < G.bounds.steps → IsSo G p n → (n ≡ no_step → ⊥) → GoesOn G p t
   next_goes p t (goes_on q) lt h some_next = inr (none, q, h)
   next_goes p t (hands a q) lt h some_next = inr (some a, q, h)
   next_goes p t fails lt h some_next = inl (play.failed, suc t, play.fails lt h)
   next_goes p t deep lt h some_next = inl (play.cut_by_depth, t, play.too_deep lt h)
   next_goes p t no_step lt h some_next = absurd (some_next refl)
 
-  within_goes : (p : Position) (t : ℕ) → t < G.bounds.steps → PositionOk V Γ A p → Goes_on G p t
+  within_goes : (p : Position) (t : ℕ) → t < G.bounds.steps → PositionOk V Γ A p → GoesOn G p t
   within_goes (library_runs K M μ P) t lt ok = next_goes (library_runs K M μ P) t (library_next G K M μ P) lt (next_so G K M μ P) (next_some K M μ P ok)
   within_goes (host_turn K l μ P) t lt ok = inl (play.turn, t, play.hands_over lt)
 
-  pub typed_goes : (p : Position) (t : ℕ) → t ≤ G.bounds.steps → PositionOk V Γ A p → Goes_on G p t
+  pub typed_goes : (p : Position) (t : ℕ) → t ≤ G.bounds.steps → PositionOk V Γ A p → GoesOn G p t
   typed_goes p t le ok = go (order t G.bounds.steps)
     where
-      go : (t < G.bounds.steps) ⊎ (G.bounds.steps ≤ t) → Goes_on G p t
+      go : (t < G.bounds.steps) ⊎ (G.bounds.steps ≤ t) → GoesOn G p t
       go (inl lt) = within_goes p t lt ok
       go (inr ge) = inl (play.cut_by_steps, t, play.out_of_steps (omega arith))

@@ -48,13 +48,13 @@ abbrev pub FullPlaysAreInOrder : Type 0
 FullPlaysAreInOrder = (G : Game) (list : WordList) → Listed G.meaning list → InOrder G list
 
 -- the play ends at a position, with t steps taken, or goes on from there
-abbrev pub Goes_on : Game → Position → ℕ → Type 0
-Goes_on G p t =
+abbrev pub GoesOn : Game → Position → ℕ → Type 0
+GoesOn G p t =
     ((ending : Ending) × (steps : ℕ) × Ends G p t ending steps) ⊎ ((a : Option Pass) × (q : Position) × (G ⊢ p ─ a ⟹ q))
 
 -- the library is never stuck: wherever a run leads, the play ends or goes on
 abbrev pub NeverStuck : Game → Type 0
-NeverStuck G = (trace : List Pass) (p : Position) (t : ℕ) → Run G (start G) 0 trace p t → Goes_on G p t
+NeverStuck G = (trace : List Pass) (p : Position) (t : ℕ) → Run G (start G) 0 trace p t → GoesOn G p t
 
 -- a mounted library all of whose numbers are lawful is never stuck
 abbrev pub PlayableIsNeverStuck : Type 0
