@@ -50,4 +50,5 @@ worked = record {
   insistence_is_counted_at_each_level = refl;
   losing_listing = refl;
   listing_of_leaves = refl;
+  cut_at_the_turn = refl;
 }

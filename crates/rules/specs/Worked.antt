@@ -118,3 +118,5 @@ pub record Worked : Type 0 where
   pub listing_of_leaves :
       listing (host_call 0 (four_leaves_value (negsuc 6) 1 (pos 10)) ∷ library_answer 0 (four_leaves_value (negsuc 6) 1 (pos 10)) ∷ []) turn 4 ≡
       lines (codes "H,call,m0,-7,m1,10,u L,ret,m0,-7,m1,10,u end,turn,4 ")
+  -- the step that hands the turn to the host is the last one allowed
+  pub cut_at_the_turn : plays_over_words (pos 0) (pos 0) calls_out (bounds 1 1 3 within) ≡ played (host_call 1 unit ∷ library_call 0 unit ∷ []) cut_by_steps 3 ∷ []
