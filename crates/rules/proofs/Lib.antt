@@ -13,3 +13,4 @@ mod Typed
 mod Preserved
 mod Unfolded
 mod Begun
+mod Mounting

@@ -13,3 +13,4 @@ pub mod Worked
 pub mod Laws
 pub mod Order
 pub mod Mounted
+pub mod Mounting

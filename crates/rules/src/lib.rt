@@ -4,6 +4,7 @@
 ghost use Rattle.arithmetic.specs.Meaning.{Meaning};
 ghost use Rattle.rules.specs.Stepping.{TakesTheSteps, OneStep};
 ghost use Rattle.rules.specs.Worked.{Spelled, Worked};
+ghost use Rattle.rules.specs.Mounting.{MountingIsPlayable};
 ghost use Rattle.rules.specs.Laws.{FullPlaysAreListed, AtMostStepsMoves, LosingIsFull, MovesDetermineThePlay, FullPlaysAreInOrder, PlayableIsNeverStuck, PlayableHasFewNames, PlaysExtend, ListingsTellPlays};
 
 /// The stepping function takes exactly the steps of the rules, and there is at most one step.
@@ -69,6 +70,13 @@ pub fn plays_extend() -> u8
 /// Two plays with the same listing are the same play.
 pub fn listings_tell_plays() -> u8
     ensures one_play_for_each_listing { ListingsTellPlays }
+{
+    0
+}
+
+/// A game whose rows mount, whose numbers are lawful and whose arithmetic keeps its laws can be played.
+pub fn mounting_is_playable() -> u8
+    ensures each_mounted_game_is_playable { MountingIsPlayable }
 {
     0
 }
