@@ -61,7 +61,7 @@ module _ (G : Game) where
   next_some p t lt (inr x) = is_some p (did x.0 x.1) (step_next G p x.1 x.0 x.2) (did_some x.0 x.1)
 
   -- from a position on, nothing is stuck
-  abbrev FreeFrom : Position → ℕ → Type 0
+  abbrev pub FreeFrom : Position → ℕ → Type 0
   FreeFrom p t = (trace : List Pass) (q : Position) (u : ℕ) → Run G p t trace q u → GoesOn G q u
 
   module _ (list : WordList) (law : Listed G.meaning list) where

@@ -14,3 +14,4 @@ mod Preserved
 mod Unfolded
 mod Begun
 mod Mounting
+mod Endings

@@ -14,3 +14,4 @@ pub mod Laws
 pub mod Order
 pub mod Mounted
 pub mod Mounting
+pub mod Endings

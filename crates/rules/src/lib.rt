@@ -5,6 +5,7 @@ ghost use Rattle.arithmetic.specs.Meaning.{Meaning};
 ghost use Rattle.rules.specs.Stepping.{TakesTheSteps, OneStep};
 ghost use Rattle.rules.specs.Worked.{Spelled, Worked};
 ghost use Rattle.rules.specs.Mounting.{MountingIsPlayable};
+ghost use Rattle.rules.specs.Endings.{PlayableComesToAnEnd};
 ghost use Rattle.rules.specs.Laws.{FullPlaysAreListed, AtMostStepsMoves, LosingIsFull, MovesDetermineThePlay, FullPlaysAreInOrder, PlayableIsNeverStuck, PlayableHasFewNames, PlaysExtend, ListingsTellPlays};
 
 /// The stepping function takes exactly the steps of the rules, and there is at most one step.
@@ -77,6 +78,13 @@ pub fn listings_tell_plays() -> u8
 /// A game whose rows mount, whose numbers are lawful and whose arithmetic keeps its laws can be played.
 pub fn mounting_is_playable() -> u8
     ensures each_mounted_game_is_playable { MountingIsPlayable }
+{
+    0
+}
+
+/// Wherever a run of a game that can be played leads, the play comes to one of its endings without a further move of the host's.
+pub fn plays_come_to_an_end() -> u8
+    ensures each_run_comes_to_an_end { PlayableComesToAnEnd }
 {
     0
 }
