@@ -68,7 +68,8 @@ moves_first (host_answer m v) trace = refl
 moves_first (library_call m v) trace = refl
 moves_first (library_answer m v) trace = refl
 
-cancel : (a : Pass) (x y : List Pass) → host_moves (a ∷ x) ≡ host_moves (a ∷ y) → host_moves x ≡ host_moves y
+-- two traces with the same first pass and the same host moves go on with the same host moves
+pub cancel : (a : Pass) (x y : List Pass) → host_moves (a ∷ x) ≡ host_moves (a ∷ y) → host_moves x ≡ host_moves y
 cancel (host_call m v) x y e = cc
 cancel (host_answer m v) x y e = cc
 cancel (library_call m v) x y e = e
@@ -207,18 +208,22 @@ module _ (G : Game) where
   ended_no_inside p q t e s (play.too_deep _ f) lt h = let x = deep_over p (goes_on q) f (step_next G p q none h) in let z : ◌≡◌ {A = ℕ} 0 1 = cc in omega arith
   ended_no_inside p q t e s (play.hands_over _) lt h = elim h [ ]
 
-  -- from where a play ends only a host move leads on
-  ended_pass : (p q : Position) (t : ℕ) (e : Ending) (s : ℕ) (a : Pass) (x : List Pass) → Ends G p t e s → t < G.bounds.steps → G ⊢ p ─ some a ⟹ q → [] ≡ host_moves (a ∷ x) → ⊥
-  ended_pass p q t e s a x (play.out_of_steps d) lt h none_made = omega arith
-  ended_pass p q t e s a x (play.fails _ f) lt h none_made = let y = fails_over p (hands a q) f (step_next G p q (some a) h) in let z : ◌≡◌ {A = ℕ} 0 1 = cc in omega arith
-  ended_pass p q t e s a x (play.too_deep _ f) lt h none_made = let y = deep_over p (hands a q) f (step_next G p q (some a) h) in let z : ◌≡◌ {A = ℕ} 0 1 = cc in omega arith
-  ended_pass p q t e s a x (play.hands_over {K} {l} {t = u} {μ} {P} _) lt h none_made =
+  -- a pass at the host's turn makes a host move
+  pub pass_moves : (K : List Pending) (l : ℕ) (μ : Memory) (P : List ℕ) (q : Position) (a : Pass) (x : List Pass) → G ⊢ host_turn K l μ P ─ some a ⟹ q → [] ≡ host_moves (a ∷ x) → ⊥
+  pass_moves K l μ P q a x h none_made =
       let c = host_step (host_turn K l μ P) q (some a) h in
       let i : c.0 ≡ a = (let d = c.1 in cc) in
       let v = one_move K l μ P c.0 q c.2 in
       let all : [] ≡ v.0 ∷ host_moves x = none_made ∙ moves_first a x ∙ ap (λ y. first_moves y ++ host_moves x) (sym i) ∙ ap (λ y. y ++ host_moves x) v.1 in
       let z : ◌≡◌ {A = ℕ} 0 1 = cc in
       omega arith
+
+  -- from where a play ends only a host move leads on
+  ended_pass : (p q : Position) (t : ℕ) (e : Ending) (s : ℕ) (a : Pass) (x : List Pass) → Ends G p t e s → t < G.bounds.steps → G ⊢ p ─ some a ⟹ q → [] ≡ host_moves (a ∷ x) → ⊥
+  ended_pass p q t e s a x (play.out_of_steps d) lt h none_made = omega arith
+  ended_pass p q t e s a x (play.fails _ f) lt h none_made = let y = fails_over p (hands a q) f (step_next G p q (some a) h) in let z : ◌≡◌ {A = ℕ} 0 1 = cc in omega arith
+  ended_pass p q t e s a x (play.too_deep _ f) lt h none_made = let y = deep_over p (hands a q) f (step_next G p q (some a) h) in let z : ◌≡◌ {A = ℕ} 0 1 = cc in omega arith
+  ended_pass p q t e s a x (play.hands_over {K} {l} {t = u} {μ} {P} _) lt h none_made = pass_moves K l μ P q a x h none_made
 
   -- a play ends in one way
   ends_same : (p : Position) (t : ℕ) (e e' : Ending) (s s' : ℕ) → Ends G p t e s → Ends G p t e' s' → (e ≡ e') × (s ≡ s')

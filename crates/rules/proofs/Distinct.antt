@@ -19,11 +19,11 @@ use Rattle.rules.specs.Enumeration.{Played, played, moves_of, full_plays}
 use Rattle.rules.specs.Order.{StandsBefore, WordsBefore, Ahead, BeforeFrom, Before, Ascending, WithoutRepetition}
 use Rattle.rules.specs.Order as order
 use Rattle.rules.specs.Laws.{InOrder, FullPlaysAreInOrder}
-use Rattle.rules.proofs.Listed.{full_plays_are_listed}
-use Rattle.rules.proofs.Ordered.{full_plays_ascend}
+use Rattle.rules.specs.Ranges.{AllPlays}
+use Rattle.rules.proofs.Ordered.{all_plays}
 
 -- no number stands twice in a list
-abbrev Distinct : List ℕ → Type 0
+abbrev pub Distinct : List ℕ → Type 0
 Distinct P = (m n : ℕ) → StandsBefore m n P → m ≡ n → ⊥
 
 low : (m : ℕ) (rows : List Row) (n : ℕ) → Memᴰ n (public_from m rows) → m ≤ n
@@ -37,7 +37,7 @@ low m (MethodRow k (Private t e) ∷ rows) n i = let h = low (suc m) rows n i in
 low m (GlobalRow k t e ∷ rows) n i = low m rows n i
 low m (TermRow k f ∷ rows) n i = low m rows n i
 
-public_distinct : (m : ℕ) (rows : List Row) → Distinct (public_from m rows)
+pub public_distinct : (m : ℕ) (rows : List Row) → Distinct (public_from m rows)
 public_distinct m [] a b s e = elim s [ ]
 public_distinct m (TypeRow k f ∷ rows) a b s e = public_distinct m rows a b s e
 public_distinct m (VariableRow k t ∷ rows) a b s e = public_distinct m rows a b s e
@@ -101,7 +101,7 @@ module _ (G : Game) where
   step_distinct p q b (rule.host_calls m y l θ M v R i lt h s) x = x
   step_distinct p q b (rule.host_answers m l E θ θ' v R h s) x = x
 
-  run_distinct : (p q : Position) (t u : ℕ) (trace : List Pass) → Run G p t trace q u → Distinct (shown_at p) → Distinct (shown_at q)
+  pub run_distinct : (p q : Position) (t u : ℕ) (trace : List Pass) → Run G p t trace q u → Distinct (shown_at p) → Distinct (shown_at q)
   run_distinct p q t u trace play.stays x = x
   run_distinct p q t u trace (play.inside {q = r} lt h run) x = run_distinct r q (suc t) u trace run (step_distinct p r _ h x)
   run_distinct p q t u trace (play.passes {q = r} {trace = rest} lt h run) x = run_distinct r q (suc t) u rest run (step_distinct p r _ h x)
@@ -115,7 +115,7 @@ module _ (G : Game) where
         omega arith
     words_apart vs ws (order.agree {vs = a} {ws = b} d h) same = words_apart a b h (cc)
 
-    ahead_apart : (P : List ℕ) (m n : Move) → Distinct P → Ahead list P m n → m ≡ n → ⊥
+    pub ahead_apart : (P : List ℕ) (m n : Move) → Distinct P → Ahead list P m n → m ≡ n → ⊥
     ahead_apart P m n x order.call_first e = let z : ◌≡◌ {A = ℕ} 0 1 = cc in omega arith
     ahead_apart P m n x (order.shown_first {m = a} {n = b} s) e = x a b s (cc)
     ahead_apart P m n x (order.called_with {vs = vs} {ws = ws} d h) e = words_apart vs ws h (cc)
@@ -130,31 +130,36 @@ module _ (G : Game) where
         ahead_apart b.shown b.first b.second (run_distinct _ _ _ _ _ b.run (public_distinct 0 G.rows)) b.ahead
         (same_next (host_moves b.trace) b.first b.second b.after_first b.after_second (sym b.earlier_is ∙ e ∙ b.later_is))
 
-    no_repetition : (xs : List (List Move)) → Ascending (Before G list) xs → WithoutRepetition xs
+    pub no_repetition : (xs : List (List Move)) → Ascending (Before G list) xs → WithoutRepetition xs
     no_repetition [] h = tt
     no_repetition (x ∷ xs) h = ((λ i. before_apart x x (h.0 x i) refl), no_repetition xs h.1)
 
-    listed_play : (moves : List Move) → FullPlay G moves → Memᴰ moves (map moves_of (full_plays G list))
-    listed_play moves f = Memᴰ.cast (sym f.moved) (Memᴰ.map moves_of ((full_plays_are_listed G list law).each_is_listed f.trace f.ending f.steps f.full))
+    -- the plays of a list of all full plays
+    module _ (plays : List Played) (all : AllPlays G list plays) where
+      -- a full play stands among the moves of such a list
+      pub listed_play : (moves : List Move) → FullPlay G moves → Memᴰ moves (map moves_of plays)
+      listed_play moves f = Memᴰ.cast (sym f.moved) (Memᴰ.map moves_of (all.each_is_listed f.trace f.ending f.steps f.full))
 
-    play_listed : (moves : List Move) → Memᴰ moves (map moves_of (full_plays G list)) → FullPlay G moves
-    play_listed moves i = let w = Memᴰ.of_map moves_of (full_plays G list) i in go w.0 w.1 w.2
-      where
-        go : (x : Played) → Memᴰ x (full_plays G list) → moves_of x ≡ moves → FullPlay G moves
-        go (played trace e s) j d = record { trace = trace; ending = e; steps = s; full = (full_plays_are_listed G list law).each_is_full trace e s j; moved = d }
+      -- a play of such a list is full
+      pub full_of : (x : Played) → Memᴰ x plays → FullPlay G (moves_of x)
+      full_of (played trace e s) i = record { trace = trace; ending = e; steps = s; full = all.each_is_full trace e s i; moved = refl }
+
+      -- what stands among the moves of such a list is a full play
+      pub play_listed : (moves : List Move) → Memᴰ moves (map moves_of plays) → FullPlay G moves
+      play_listed moves i = let w = Memᴰ.of_map moves_of plays i in subst (FullPlay G) w.2 (full_of w.0 w.1)
 
 pub full_plays_are_in_order : FullPlaysAreInOrder
 full_plays_are_in_order G list law =
-    let up = full_plays_ascend G list law in
-    let once = no_repetition G list law (map moves_of (full_plays G list)) up in
+    let all = all_plays G list law in
+    let once = no_repetition G list law (map moves_of (full_plays G list)) all.in_order in
     record {
-      ascending = up;
+      ascending = all.in_order;
       no_repetition = once;
       counted = record {
         those = map moves_of (full_plays G list);
         no_repetition = once;
-        holds_each = listed_play G list law;
-        holds_no_other = play_listed G list law;
+        holds_each = listed_play G list law (full_plays G list) all;
+        holds_no_other = play_listed G list law (full_plays G list) all;
         as_many = length-map (full_plays G list) moves_of;
       };
     }

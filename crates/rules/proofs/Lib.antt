@@ -7,6 +7,8 @@ mod Counts
 mod Determined
 mod Ordered
 mod Distinct
+mod OneWay
+mod Ranges
 mod Extends
 mod Told
 mod Typed

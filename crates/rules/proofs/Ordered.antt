@@ -14,6 +14,8 @@ use Rattle.rules.specs.Plays as play
 use Rattle.rules.specs.Enumeration.{Next, goes_on, hands, fails, deep, no_step, library_next, Saying, saying, in_order, each_word, with_left, both_parts, Reply, reply, calls_with, answers_with, where_true, sayings, calls_of, calls, answers_of, answers, replies, Played, played, after, moves_of, after_each, after_next, at_turn, plays_from, full_plays}
 use Rattle.rules.specs.Order.{StandsBefore, WordsBefore, Ahead, BeforeFrom, Before, Ascending}
 use Rattle.rules.specs.Order as order
+use Rattle.rules.specs.Ranges.{AllPlays, FullPlaysHaveAList}
+use Rattle.rules.proofs.Listed.{full_plays_are_listed}
 use Rattle.rules.proofs.Sayings.{listed_word, in_each, in_left, in_both, in_with, in_answer, replies_are}
 use Rattle.rules.proofs.Nexts.{IsSo, next_so}
 use Rattle.rules.proofs.Determined.{first_moves, moves_first}
@@ -334,3 +336,12 @@ module _ (list : WordList) where
 
 pub full_plays_ascend : (G : Game) (list : WordList) → Listed G.meaning list → Ascending (Before G list) (map moves_of (full_plays G list))
 full_plays_ascend G list law = ascending_map (λ x y. Before G list (moves_of x) (moves_of y)) (Before G list) moves_of (full_plays G list) (λ x y b. b) (plays_ascend list G law G.bounds.steps 0 (omega arith) (start G))
+
+-- the computed list is that of all full plays
+pub all_plays : (G : Game) (list : WordList) → Listed G.meaning list → AllPlays G list (full_plays G list)
+all_plays G list law =
+    let exact = full_plays_are_listed G list law in
+    record { each_is_listed = exact.each_is_listed; each_is_full = exact.each_is_full; in_order = full_plays_ascend G list law }
+
+pub full_plays_have_a_list : FullPlaysHaveAList
+full_plays_have_a_list G list law = (full_plays G list, all_plays G list law)

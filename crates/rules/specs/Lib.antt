@@ -12,6 +12,7 @@ pub mod Libraries
 pub mod Worked
 pub mod Laws
 pub mod Order
+pub mod Ranges
 pub mod Mounted
 pub mod Mounting
 pub mod Endings

@@ -4,6 +4,7 @@
 ghost use Rattle.arithmetic.specs.Meaning.{Meaning};
 ghost use Rattle.rules.specs.Stepping.{TakesTheSteps, OneStep};
 ghost use Rattle.rules.specs.Worked.{Spelled, Worked};
+ghost use Rattle.rules.specs.Ranges.{OrderGoesOneWay, FullPlaysHaveAList, FullPlaysAreCounted};
 ghost use Rattle.rules.specs.Mounting.{MountingIsPlayable};
 ghost use Rattle.rules.specs.Endings.{PlayableComesToAnEnd};
 ghost use Rattle.rules.specs.Laws.{FullPlaysAreListed, AtMostStepsMoves, LosingIsFull, MovesDetermineThePlay, FullPlaysAreInOrder, PlayableIsNeverStuck, PlayableHasFewNames, PlaysExtend, ListingsTellPlays};
@@ -85,6 +86,15 @@ pub fn mounting_is_playable() -> u8
 /// Wherever a run of a game that can be played leads, the play comes to one of its endings without a further move of the host's.
 pub fn plays_come_to_an_end() -> u8
     ensures each_run_comes_to_an_end { PlayableComesToAnEnd }
+{
+    0
+}
+
+/// The order of plays goes one way, and places in a list of all full plays count them, also those in a range.
+pub fn full_plays_are_counted() -> u8
+    ensures one_way { OrderGoesOneWay }
+    ensures all_in_order { FullPlaysHaveAList }
+    ensures counted_by_place { FullPlaysAreCounted }
 {
     0
 }
