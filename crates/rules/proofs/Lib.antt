@@ -9,6 +9,7 @@ mod Ordered
 mod Distinct
 mod OneWay
 mod Ranges
+mod Verdicts
 mod Extends
 mod Told
 mod Typed

@@ -13,6 +13,7 @@ pub mod Worked
 pub mod Laws
 pub mod Order
 pub mod Ranges
+pub mod Outcomes
 pub mod Mounted
 pub mod Mounting
 pub mod Endings

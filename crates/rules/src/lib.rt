@@ -5,6 +5,7 @@ ghost use Rattle.arithmetic.specs.Meaning.{Meaning};
 ghost use Rattle.rules.specs.Stepping.{TakesTheSteps, OneStep};
 ghost use Rattle.rules.specs.Worked.{Spelled, Worked};
 ghost use Rattle.rules.specs.Ranges.{OrderGoesOneWay, FullPlaysHaveAList, FullPlaysAreCounted};
+ghost use Rattle.rules.specs.Outcomes.{GamesComeOut, VerdictIsRight};
 ghost use Rattle.rules.specs.Mounting.{MountingIsPlayable};
 ghost use Rattle.rules.specs.Endings.{PlayableComesToAnEnd};
 ghost use Rattle.rules.specs.Laws.{FullPlaysAreListed, AtMostStepsMoves, LosingIsFull, MovesDetermineThePlay, FullPlaysAreInOrder, PlayableIsNeverStuck, PlayableHasFewNames, PlaysExtend, ListingsTellPlays};
@@ -95,6 +96,14 @@ pub fn full_plays_are_counted() -> u8
     ensures one_way { OrderGoesOneWay }
     ensures all_in_order { FullPlaysHaveAList }
     ensures counted_by_place { FullPlaysAreCounted }
+{
+    0
+}
+
+/// Each game comes out safe, or lost at its first losing play, and the computed verdict tells which.
+pub fn games_come_out() -> u8
+    ensures safe_or_lost { GamesComeOut }
+    ensures verdict_is_right { VerdictIsRight }
 {
     0
 }
