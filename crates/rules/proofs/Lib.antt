@@ -17,4 +17,6 @@ mod Preserved
 mod Unfolded
 mod Begun
 mod Mounting
+mod Tested
+mod Texts
 mod Endings

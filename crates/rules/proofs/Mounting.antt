@@ -27,6 +27,7 @@ place_of (r ∷ rows) row (Memᴰ.head e) = (0, ap Some (sym e))
 place_of (r ∷ rows) row (Memᴰ.tail i) = let w = place_of rows row i in (suc w.0, w.1)
 
 module _ (rows : List Row) (fine : WellTyped rows) where
+  -- no row has a fault after the rows before it
   faultless : Faultless rows
   faultless = faultless_of rows fine
 
@@ -34,9 +35,11 @@ module _ (rows : List Row) (fine : WellTyped rows) where
   abbrev TypedUpTo : ℕ → Type 0
   TypedUpTo i = (known : List ℕ) × TypedBy rows known × (length known ≡ length (section_rows Terms (take i rows)))
 
+  -- a row that is no term changes nothing
   no_more : (i : ℕ) (row : Row) → slice_get rows i ≡ Some row → ((t : ℕ) (form : TermForm) → row ≡ TermRow t form → ⊥) → TypedUpTo i → TypedUpTo (i + 1)
   no_more i row e other k = (k.0, k.1, k.2 ∙ no_term rows faultless i row e other)
 
+  -- each row is typed after the rows before it
   one_more : (i : ℕ) (row : Row) → slice_get rows i ≡ Some row → TypedUpTo i → TypedUpTo (i + 1)
   one_more i (TypeRow n f) e k = no_more i (TypeRow n f) e (λ t form d. let z : ◌≡◌ {A = ℕ} 0 1 = cc in omega arith) k
   one_more i (VariableRow n t) e k = no_more i (VariableRow n t) e (λ u form d. let z : ◌≡◌ {A = ℕ} 0 1 = cc in omega arith) k
@@ -48,17 +51,20 @@ module _ (rows : List Row) (fine : WellTyped rows) where
       step (Ok n) q = let w = typed_next rows faultless i t form e k.0 n k.1 k.2 q in (k.0 ++ (n ∷ []), w.0, w.1)
       step (Err fault) q = let m = typing_refused rows faultless i t form e k.0 k.1 k.2 fault q _ refl in absurd (fine m.0 (Typing fault) m.2.holds)
 
+  -- so the terms among the first rows are typed
   typed_up_to : (i : ℕ) → i ≤ length rows → TypedUpTo i
   typed_up_to zero le = ([], (λ t. refl), refl)
   typed_up_to (suc i) le =
       let here = nth_there rows i (omega arith) in
       subst TypedUpTo (add-one i) (one_more i here.0 here.1 (typed_up_to i (omega arith)))
 
+  -- each method and each global keeps its rule
   sound : SoundDefinitions rows
   sound =
       let k = typed_up_to (length rows) (omega arith) in
       sound_definitions rows fine k.0 k.1 (k.2 ∙ ap (λ rs. length (section_rows Terms rs)) (take_all rows))
 
+  -- so the rows are mounted
   mounted : Mounted rows
   mounted = record {
     faultless = faultless;

@@ -10,6 +10,7 @@ pub mod Listings
 pub mod Verdicts
 pub mod Libraries
 pub mod Worked
+pub mod Texts
 pub mod Laws
 pub mod Order
 pub mod Ranges

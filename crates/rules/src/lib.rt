@@ -6,6 +6,7 @@ ghost use Rattle.rules.specs.Stepping.{TakesTheSteps, OneStep};
 ghost use Rattle.rules.specs.Worked.{Spelled, Worked};
 ghost use Rattle.rules.specs.Ranges.{OrderGoesOneWay, FullPlaysHaveAList, FullPlaysAreCounted};
 ghost use Rattle.rules.specs.Outcomes.{GamesComeOut, VerdictIsRight};
+ghost use Rattle.rules.specs.Texts.{WorkedLibrariesMount};
 ghost use Rattle.rules.specs.Mounting.{MountingIsPlayable};
 ghost use Rattle.rules.specs.Endings.{PlayableComesToAnEnd};
 ghost use Rattle.rules.specs.Laws.{FullPlaysAreListed, AtMostStepsMoves, LosingIsFull, MovesDetermineThePlay, FullPlaysAreInOrder, PlayableIsNeverStuck, PlayableHasFewNames, PlaysExtend, ListingsTellPlays};
@@ -104,6 +105,13 @@ pub fn full_plays_are_counted() -> u8
 pub fn games_come_out() -> u8
     ensures safe_or_lost { GamesComeOut }
     ensures verdict_is_right { VerdictIsRight }
+{
+    0
+}
+
+/// The text of each worked library is read as its rows, and these mount.
+pub fn worked_libraries_mount() -> u8
+    ensures read_and_mounted { WorkedLibrariesMount }
 {
     0
 }
