@@ -1,5 +1,5 @@
 -- Every play comes to an end without the host, where the library is never stuck.
-use Rattle.std.proofs.Common.{◌≡◌, ℕ, zero, suc, ◌+◌, ◌-◌, ◌<◌, ◌≤◌, ◌⊎◌, List, [], ◌∷◌, ◌++◌, refl, ◌∙◌, inl, inr, arith}
+use Rattle.std.proofs.Common.{◌≡◌, ℕ, zero, suc, ◌+◌, ◌-◌, ◌<◌, List, [], ◌∷◌, ◌++◌, refl, ◌∙◌, inl, inr, arith}
 use mathlib.Core.Option.{Option, none, some}
 use Rattle.rules.specs.Terms.{Term}
 use Rattle.rules.specs.Memory.{Memory}

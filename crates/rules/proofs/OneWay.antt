@@ -1,10 +1,9 @@
 -- The order of plays goes one way only: no play comes before one that comes before it.
-use Rattle.std.proofs.Common.{◌≡◌, ℕ, zero, suc, ◌<◌, List, [], ◌∷◌, ◌++◌, ℤ, sym, refl, ap, ◌∙◌, subst, arith}
+use Rattle.std.proofs.Common.{◌≡◌, ℕ, suc, List, [], ◌∷◌, ◌++◌, ℤ, sym, refl, ap, ◌∙◌, subst, arith}
 use mathlib.Core.List.{Memᴰ}
-use mathlib.Core.Option.{Option, none, some}
 use Rattle.arithmetic.specs.Meaning.{WordList, Listed}
 use Rattle.rules.specs.Memory.{Memory}
-use Rattle.rules.specs.Game.{Game, Pending, Position, library_runs, host_turn, start, Pass, ◌⊢◌─◌⟹◌}
+use Rattle.rules.specs.Game.{Game, Pending, Position, host_turn, Pass}
 use Rattle.rules.specs.Plays.{Run, Move, call, answer, host_moves}
 use Rattle.rules.specs.Plays as play
 use Rattle.rules.specs.Order.{StandsBefore, WordsBefore, Ahead, Before}

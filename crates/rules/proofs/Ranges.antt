@@ -1,5 +1,5 @@
 -- Places in a list of all full plays count the full plays in a range.
-use Rattle.std.proofs.Common.{◌≡◌, ℕ, zero, suc, ◌+◌, ◌-◌, ◌<◌, ◌≤◌, ◌⊎◌, List, [], ◌∷◌, map, length, take, drop, sym, refl, ap, ◌∙◌, subst, inl, inr, arith, length-drop, length-take}
+use Rattle.std.proofs.Common.{◌≡◌, ℕ, zero, suc, ◌+◌, ◌-◌, ◌<◌, ◌≤◌, ◌⊎◌, List, [], ◌∷◌, map, length, take, drop, sym, ap, ◌∙◌, subst, inl, inr, arith, length-drop, length-take}
 use mathlib.Core.List.Memᴰ
 use mathlib.Core.List.{Memᴰ}
 use mathlib.Core.Option.{Option, none, some}
@@ -8,7 +8,7 @@ use Rattle.std.proofs.str.Laws.{order}
 use Rattle.arithmetic.specs.Meaning.{WordList, Listed}
 use Rattle.rules.specs.Memory.{at}
 use Rattle.rules.specs.Game.{Game}
-use Rattle.rules.specs.Plays.{Move, FullPlay}
+use Rattle.rules.specs.Plays.{Move}
 use Rattle.rules.specs.Enumeration.{Played, moves_of}
 use Rattle.rules.specs.Order.{Before, Ascending, WithoutRepetition, Counted}
 use Rattle.rules.specs.Ranges.{After, FullInRange, AllPlays, FullPlaysAreCounted}

@@ -1,5 +1,5 @@
 -- Texts that pass tests which can be computed are read, and their rows mount.
-use Rattle.std.proofs.Common.{◌≡◌, ℕ, zero, suc, ◌+◌, ◌^◌, ◌<◌, ◌≤◌, Bool, true, false, ◌&&◌, eqb, ltb, leb, ◌⊎◌, List, [], ◌∷◌, ◌++◌, length, get_or, take, set, replicate, Some, None, Ok, Err, Option, Result, sym, refl, ap, ◌∙◌, subst, inl, inr, append_assoc, append-nil, arith, length-append, length-set, w32, ltb-true, eqb-true, leb-true}
+use Rattle.std.proofs.Common.{◌≡◌, ℕ, zero, suc, ◌+◌, ◌^◌, ◌<◌, ◌≤◌, Bool, true, false, ◌&&◌, eqb, ltb, leb, ◌⊎◌, List, [], ◌∷◌, ◌++◌, length, take, replicate, Some, None, Ok, Err, Option, Result, sym, refl, ap, ◌∙◌, subst, inl, inr, append_assoc, append-nil, arith, length-set, ltb-true, eqb-true, leb-true}
 use lib.Signed.{mag}
 use Rattle.std.specs.List.{slice_get, AllByRecursion}
 use Rattle.std.proofs.lemmas.Option.{slice_get-get_or, slice_get_past}
@@ -7,7 +7,6 @@ use Rattle.std.proofs.lemmas.Bool.{and_parts}
 use Rattle.std.proofs.str.Laws.{order}
 use Rattle.faults.specs.declared.TypingFault.{TypingFault}
 use Rattle.text.specs.Slots.{Slot, literal, number, word, InRange}
-use Rattle.rows.specs.declared.forms.TypeForm.{TypeForm}
 use Rattle.rows.specs.declared.forms.TermForm.{TermForm}
 use Rattle.rows.specs.declared.forms.Row.{Row}
 use Rattle.rows.specs.declared.forms.Row.TheVariants.{«Type» as TypeRow, Variable as VariableRow, Method as MethodRow, Global as GlobalRow, Term as TermRow}
@@ -16,17 +15,17 @@ use Rattle.rows.specs.declared.forms.Section.TheVariants.{Types, Variables, Meth
 use Rattle.rows.specs.declared.tally.Counts.{Counts}
 use Rattle.rows.specs.Printing.{slots, row_lines}
 use Rattle.rows.specs.Sections.{section, running, limit, references}
-use Rattle.rows.specs.Faults.{Faultless, NoneOf, RowFault, ListedBefore}
+use Rattle.rows.specs.Faults.{Faultless, ListedBefore}
 use Rattle.rows.specs.Tallies.{Tallied, counted, later_count, all_below, leaves_by, counts_with, leaves_with}
 use Rattle.rows.proofs.Admits.{leaves_told, none_holds, tallied_push}
-use Rattle.reader.specs.Text.{Granted, Reads, most_bytes}
+use Rattle.reader.specs.Text.{most_bytes}
 use Rattle.reader.proofs.Progress.{faultless_push}
 use Rattle.library.specs.Inference.{first_of_form, type_of, types_term, TypedBy}
 use Rattle.library.specs.Judging.{stands}
 use Rattle.library.specs.Listing.{section_rows, type_form_of, term_at}
 use Rattle.library.specs.Mounting.{WellTyped}
 use Rattle.library.specs.Scopes.{ScopedBy, Words, free_in}
-use Rattle.library.proofs.Granting.{Found, granted_rows}
+use Rattle.library.proofs.Granting.{granted_rows}
 use Rattle.library.proofs.Lists.{nth_inside, not_found}
 use Rattle.rules.specs.Texts.{ReadsAndMounts}
 

@@ -1,6 +1,5 @@
 -- The texts of the worked libraries are read, and their rows mount, by computation.
 use Rattle.std.proofs.Common.{◌≡◌, true, [], refl}
-use Rattle.std.specs.Fmt.{digits}
 use Rattle.rules.specs.Libraries.{asserts_and_calls_out, asserts_and_calls_out_text, adds_and_subtracts, adds_and_subtracts_text, empty, hands_out_a_function, hands_out_a_function_text, keeps_a_function, keeps_a_function_text, takes_four_leaves, takes_four_leaves_text, calls_out, calls_out_text}
 use Rattle.rules.specs.Texts.{WorkedLibrariesMount}
 use Rattle.rules.proofs.Computed.{spelled}

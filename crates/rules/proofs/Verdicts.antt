@@ -1,12 +1,12 @@
 -- What trying the full plays in order comes to is how the game comes out.
-use Rattle.std.proofs.Common.{◌≡◌, ℕ, zero, suc, ◌+◌, ◌<◌, ◌≤◌, Bool, true, false, ◌||◌, ◌⊎◌, List, [], ◌∷◌, ◌++◌, map, length, take, MatchBool, sym, refl, ap, ◌∙◌, subst, inl, inr, arith}
+use Rattle.std.proofs.Common.{◌≡◌, ℕ, zero, suc, ◌+◌, ◌<◌, Bool, true, false, ◌||◌, ◌⊎◌, List, [], ◌∷◌, ◌++◌, map, length, take, MatchBool, sym, refl, ap, ◌∙◌, subst, inl, inr, arith}
 use mathlib.Core.List.Memᴰ
 use mathlib.Core.List.{Memᴰ}
-use mathlib.Core.Option.{Option, none, some}
+use mathlib.Core.Option.{none, some}
 use Rattle.arithmetic.specs.Meaning.{WordList, Listed}
 use Rattle.rules.specs.Memory.{at}
 use Rattle.rules.specs.Game.{Game, start, Pass}
-use Rattle.rules.specs.Plays.{Ending, failed, cut_by_depth, cut_by_steps, turn, Move, host_moves, PlayFrom, FullFrom, Play, FullPlay, LosingPlay}
+use Rattle.rules.specs.Plays.{Ending, failed, cut_by_depth, cut_by_steps, turn, Move, host_moves, PlayFrom, Play, FullPlay, LosingPlay}
 use Rattle.rules.specs.Enumeration.{Played, played, moves_of, full_plays}
 use Rattle.rules.specs.Verdicts.{Verdict, lost, safe, tried, verdict}
 use Rattle.rules.specs.Order.{Before, Counted}
