@@ -29,11 +29,12 @@ pub record Lost (G : Game) (list : WordList) (trace : List Pass) (steps n : ℕ)
   pub first : (moves : List Move) → LosingPlay G moves → Before G list moves (host_moves trace) → ⊥
   pub tried : TriedWith G (FullInRange G list none (host_moves trace)) n by_depth by_steps
 
--- each game comes out safe or lost
+-- a game that comes out safe, or lost
 pub data ComesOut (G : Game) (list : WordList) : Type 0 where
   safely : (n : ℕ) (by_depth by_steps : Bool) → Safe G n by_depth by_steps → ComesOut G list
   by_a_loss : (trace : List Pass) (steps n : ℕ) (by_depth by_steps : Bool) → Lost G list trace steps n by_depth by_steps → ComesOut G list
 
+-- each game comes out safe or lost
 abbrev pub GamesComeOut : Type 0
 GamesComeOut = (G : Game) (list : WordList) → Listed G.meaning list → ComesOut G list
 

@@ -35,8 +35,7 @@ OrderGoesOneWay =
 abbrev pub FullPlaysHaveAList : Type 0
 FullPlaysHaveAList = (G : Game) (list : WordList) → Listed G.meaning list → (plays : List Played) × AllPlays G list plays
 
--- a list of all full plays is without repetition, so that its length is their number; and places in it tell the number of those in
--- a range
+-- a list without repetition whose length is the number of full plays, and whose places tell the number of those in a range
 pub record CountedByPlace (G : Game) (list : WordList) (plays : List Played) : Type 0 where
   pub no_repetition : WithoutRepetition (map moves_of plays)
   pub counted : Counted (FullPlay G) (length plays)
@@ -44,5 +43,6 @@ pub record CountedByPlace (G : Game) (list : WordList) (plays : List Played) : T
   pub counted_between : (i j : ℕ) (from to : List Move) → i ≤ j → at (map moves_of plays) i ≡ some from → at (map moves_of plays) j ≡ some to →
       Counted (FullInRange G list (some from) to) (j - i)
 
+-- each list of all full plays counts them so
 abbrev pub FullPlaysAreCounted : Type 0
 FullPlaysAreCounted = (G : Game) (list : WordList) → Listed G.meaning list → (plays : List Played) → AllPlays G list plays → CountedByPlace G list plays
