@@ -22,7 +22,7 @@ among plays (reply b r ∷ rs) a q trace e s (mathlib.Core.List.Memᴰ.head d) j
     rw (← x, ← y) (mathlib.Core.List.Memᴰ.append_left (after_each plays rs) (mathlib.Core.List.Memᴰ.map (after a) j))
 among plays (reply b r ∷ rs) a q trace e s (mathlib.Core.List.Memᴰ.tail i) j = mathlib.Core.List.Memᴰ.append_right (map (after b) (plays r)) (among plays rs a q trace e s i j)
 
--- a play of `after-each` is a reply and a play after it
+-- a play of `after_each` is a reply and a play after it
 apart : (plays : Position → List Played) (rs : List Reply) (trace : List Pass) (e : Ending) (s : ℕ) → Memᴰ (played trace e s) (after_each plays rs) → (a : Pass) × (q : Position) × (rest : List Pass) × Memᴰ (reply a q) rs × (trace ≡ a ∷ rest) × Memᴰ (played rest e s) (plays q)
 apart plays [] trace e s i = absurd (mathlib.Core.List.Memᴰ.not-nil i)
 apart plays (reply a q ∷ rs) trace e s i = go (mathlib.Core.List.Memᴰ.append_cases (map (after a) (plays q)) i) (λ j. apart plays rs trace e s j)

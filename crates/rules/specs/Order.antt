@@ -1,5 +1,5 @@
 -- The order of the host's moves at a position and of plays, and counts of plays. Assumes nothing.
--- Only here, and where full plays are enumerated, the host's list of words is used.
+-- The host's list of words is used here, where full plays are enumerated and counted, and where a game comes out; and nowhere else.
 use Rattle.std.specs.Prelude.{◌≡◌, ℕ, ◌<◌, List, [], ◌∷◌, ◌++◌, length, ℤ}
 use mathlib.Core.List.{Memᴰ}
 use Rattle.arithmetic.specs.Meaning.{WordList}
