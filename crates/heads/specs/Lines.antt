@@ -1,6 +1,6 @@
 -- What a line of text may be that names something: its form, what it spells, what may be wrong with it, and how a reader
 -- answers it. Slots say how a thing is printed. Assumes nothing.
-use Rattle.std.specs.Prelude.{◌≡◌, ℕ, ◌<◌, List, Ok, Err, Result}
+use Rattle.std.specs.Prelude.{◌≡◌, ℕ, List, Ok, Err, Result}
 use Rattle.faults.specs.declared.TextFault.{TextFault}
 use Rattle.faults.specs.declared.TextFault.TheVariants.{Form, Number, Order, Reference, Limit, Repeat}
 use Rattle.faults.specs.declared.PlayFault.{PlayFault}

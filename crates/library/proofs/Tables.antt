@@ -1,5 +1,5 @@
 -- Tables of types and of free variables, one term more at a time. Assumes nothing.
-use Rattle.std.proofs.Common.{◌≡◌, ℕ, zero, suc, ◌+◌, ◌<◌, ◌≤◌, true, ◌⊎◌, List, [], ◌∷◌, ◌++◌, length, take, Some, None, Ok, Err, Option, Result, sym, refl, ap, ◌∙◌, subst, ⊎_elim, arith, length-append, eq-eqb, true-eqb}
+use Rattle.std.proofs.Common.{◌≡◌, ℕ, zero, suc, ◌<◌, ◌≤◌, true, List, [], ◌∷◌, ◌++◌, length, take, Some, None, Ok, Err, Option, Result, sym, refl, ap, ◌∙◌, subst, ⊎_elim, arith, length-append, eq-eqb, true-eqb}
 use Rattle.std.specs.List.{slice_get}
 use Rattle.faults.specs.declared.TypingFault.{TypingFault}
 use Rattle.rows.specs.declared.forms.TermForm.{TermForm}

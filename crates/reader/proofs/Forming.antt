@@ -1,15 +1,13 @@
 -- A line has a form just where its fields have one. Assumes nothing.
-use Rattle.std.proofs.Common.{◌≡◌, ℕ, suc, ◌<◌, ◌≤◌, Bool, true, false, eqb, List, [], ◌∷◌, ◌++◌, map, length, replicate, ℤ, pos, Some, None, codes, decimal, Option, sym, refl, ap, ◌∙◌, subst, arith, w32, SFits, eq-eqb, true-eqb}
-use Rattle.std.specs.Option.{option_map}
-use Rattle.std.specs.Fmt.{signed_decimal}
+use Rattle.std.proofs.Common.{◌≡◌, ℕ, Bool, true, false, eqb, List, [], ◌∷◌, length, replicate, pos, Some, None, codes, Option, sym, refl, ap, ◌∙◌, subst, arith, eq-eqb, true-eqb}
 use Rattle.std.specs.List.{AllByRecursion}
 use Rattle.arithmetic.specs.declared.Operation.{Operation}
 use Rattle.arithmetic.specs.declared.Operation.TheVariants.{Add, Sub, Mul, Less, Equal}
 use Rattle.arithmetic.specs.Words.{operation_word, operation_table}
-use Rattle.text.specs.Slots.{Slot, literal, number, word, written, InRange, Free, Takes, Fits}
-use Rattle.text.specs.Reading.{keyword_of, number_of, word_of, one_number, two_numbers, three_numbers}
+use Rattle.text.specs.Slots.{Slot, literal, number, word, Free, Takes, Fits}
+use Rattle.text.specs.Reading.{keyword_of}
 use Rattle.text.proofs.Forms.{fits_length, word_first}
-use Rattle.text.proofs.Laws.{none_some, number_written, word_written, word_exact, number_exact, one_exact, two_exact, three_exact, keyword_found}
+use Rattle.text.proofs.Laws.{keyword_found}
 use Rattle.rows.specs.declared.forms.TypeForm.{TypeForm}
 use Rattle.rows.specs.declared.forms.TypeForm.TheVariants.{Unit as UnitType, Int as IntType, Pair as PairType, Fun as FunType}
 use Rattle.rows.specs.declared.forms.MethodForm.{MethodForm}
@@ -22,7 +20,6 @@ use Rattle.rows.specs.declared.forms.Section.{Section}
 use Rattle.rows.specs.declared.forms.Section.TheVariants.{Types, Variables, Methods, Globals, Terms}
 use Rattle.rows.specs.Sections.{section_word, section_table}
 use Rattle.rows.specs.Printing.{slots, type_slots, method_slots, term_slots}
-use Rattle.rows.specs.Faults.{NumbersInRange}
 use Rattle.reader.specs.declared.keywords.TypeWord.{TypeWord}
 use Rattle.reader.specs.declared.keywords.TypeWord.TheVariants.{Unit as UnitTypeWord, Int, Pair as PairTypeWord, Fun}
 use Rattle.reader.specs.declared.keywords.MethodWord.{MethodWord}
@@ -30,7 +27,7 @@ use Rattle.reader.specs.declared.keywords.MethodWord.TheVariants.{Abstract, Publ
 use Rattle.reader.specs.declared.keywords.TermWord.{TermWord}
 use Rattle.reader.specs.declared.keywords.TermWord.TheVariants.{Unit as UnitWord, Num, Var, Meth, Get, Lam, Set, Op, Pair, Fst, Snd, App, If, Let, Assert}
 use Rattle.reader.specs.Words.{type_word, type_table, method_word, method_table, term_word, term_table}
-use Rattle.reader.specs.Fields.{of_two, of_three, at_end, one_word, type_parts, type_by, type_of, method_parts, method_by, method_of, operation_by, operation_of, term_parts, term_by, term_of, row_parts, row_by, row_of, type_formed_by, type_formed, method_formed_by, method_formed, operation_formed_by, operation_formed, parts_formed, term_formed_by, term_formed, section_formed, formed_by, has_form}
+use Rattle.reader.specs.Fields.{type_formed_by, type_formed, method_formed_by, method_formed, operation_formed_by, operation_formed, parts_formed, term_formed_by, term_formed, section_formed, formed_by, has_form}
 
 false_true : false ≡ true → ⊥
 false_true e = let z : ◌≡◌ {A = ℕ} 0 1 = cc in omega arith

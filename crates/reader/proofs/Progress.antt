@@ -1,5 +1,5 @@
 -- How far a text is read, and what one line more adds. Assumes nothing.
-use Rattle.std.proofs.Common.{◌≡◌, ℕ, ◌+◌, ◌<◌, ◌≤◌, Bool, true, false, cond, eqb, ltb, ◌⊎◌, List, [], ◌∷◌, ◌++◌, length, get_or, take, drop, set, Ok, Err, sym, refl, ap, ◌∙◌, subst, inl, inr, ⊎_elim, append_assoc, append-nil, arith, length-append, length-set, take-append-drop, ltb-true, lt-ltb}
+use Rattle.std.proofs.Common.{◌≡◌, ℕ, ◌+◌, ◌<◌, ◌≤◌, Bool, true, false, cond, eqb, ltb, List, [], ◌∷◌, ◌++◌, length, take, drop, set, Ok, Err, sym, refl, ap, ◌∙◌, subst, inl, inr, ⊎_elim, append_assoc, append-nil, arith, length-append, length-set, take-append-drop, ltb-true, lt-ltb}
 use Rattle.std.proofs.lemmas.List.{take_more_set, drop-set-lt, get_or_append_left, get_or_push, take-append-le, take_all, length-take-le, drop-drop}
 use Rattle.std.proofs.str.Laws.{order}
 use Rattle.rows.specs.declared.forms.Row.{Row}
@@ -12,7 +12,6 @@ use Rattle.rows.specs.declared.forms.Section.TheVariants.{Types, Variables, Meth
 use Rattle.rows.specs.declared.forms.Row.TheVariants.{«Type» as TypeRow, Variable as VariableRow, Method as MethodRow, Global as GlobalRow, Term as TermRow}
 use Rattle.faults.specs.declared.TextFault.{TextFault}
 use Rattle.faults.specs.declared.TextFault.TheVariants.{Limit}
-use Rattle.text.specs.Slots.{Lacks}
 use Rattle.reader.specs.Text.{FirstLine, LineFault, Reads, Spells, most_bytes}
 
 -- the first count rows are those of the lines read, rest is still to be read, and the other rows are as they were

@@ -1,13 +1,13 @@
 -- The fields of a row's line spell that row and no other; the forms of lines. Assumes nothing.
-use Rattle.std.proofs.Common.{◌≡◌, ℕ, suc, ◌<◌, ◌≤◌, Bool, true, false, eqb, List, [], ◌∷◌, ◌++◌, map, length, ℤ, pos, Some, None, codes, decimal, Option, sym, refl, ap, ◌∙◌, subst, arith, w32, SFits, eq-eqb, true-eqb}
+use Rattle.std.proofs.Common.{◌≡◌, ℕ, ◌≤◌, List, [], ◌∷◌, map, ℤ, Some, None, codes, decimal, Option, sym, refl, ap, ◌∙◌, subst, w32, SFits}
 use Rattle.std.specs.Option.{option_map}
 use Rattle.std.specs.Fmt.{signed_decimal}
 use Rattle.std.specs.List.{AllByRecursion}
 use Rattle.arithmetic.specs.declared.Operation.{Operation}
 use Rattle.arithmetic.specs.declared.Operation.TheVariants.{Add, Sub, Mul, Less, Equal}
 use Rattle.arithmetic.specs.Words.{operation_word, operation_table}
-use Rattle.text.specs.Slots.{Slot, literal, number, word, written, InRange, Free, Takes, Fits}
-use Rattle.text.specs.Reading.{keyword_of, number_of, word_of, one_number, two_numbers, three_numbers}
+use Rattle.text.specs.Slots.{Slot, literal, number, written, InRange}
+use Rattle.text.specs.Reading.{keyword_of, number_of, one_number, two_numbers, three_numbers}
 use Rattle.text.proofs.Laws.{none_some, number_written, word_written, word_exact, number_exact, one_exact, two_exact, three_exact, keyword_found}
 use Rattle.rows.specs.declared.forms.TypeForm.{TypeForm}
 use Rattle.rows.specs.declared.forms.TypeForm.TheVariants.{Unit as UnitType, Int as IntType, Pair as PairType, Fun as FunType}
@@ -29,7 +29,7 @@ use Rattle.reader.specs.declared.keywords.MethodWord.TheVariants.{Abstract, Publ
 use Rattle.reader.specs.declared.keywords.TermWord.{TermWord}
 use Rattle.reader.specs.declared.keywords.TermWord.TheVariants.{Unit as UnitWord, Num, Var, Meth, Get, Lam, Set, Op, Pair, Fst, Snd, App, If, Let, Assert}
 use Rattle.reader.specs.Words.{type_word, type_table, method_word, method_table, term_word, term_table}
-use Rattle.reader.specs.Fields.{of_two, of_three, at_end, one_word, type_parts, type_by, type_of, method_parts, method_by, method_of, operation_by, operation_of, term_parts, term_by, term_of, row_parts, row_by, row_of, type_formed_by, type_formed, method_formed_by, method_formed, operation_formed_by, operation_formed, parts_formed, term_formed_by, term_formed, section_formed, formed_by, has_form}
+use Rattle.reader.specs.Fields.{of_two, of_three, at_end, one_word, type_parts, type_by, type_of, method_parts, method_by, method_of, operation_by, operation_of, term_parts, term_by, term_of, row_parts, row_by, row_of}
 
 -- the fields of a form spell it
 type_written : (f : TypeForm) → AllByRecursion InRange (type_slots f) → type_of (map written (type_slots f)) ≡ Some f

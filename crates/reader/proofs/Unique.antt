@@ -1,21 +1,20 @@
 -- A text has one answer. Assumes nothing.
-use Rattle.std.proofs.Common.{◌≡◌, ℕ, suc, ◌+◌, ◌<◌, ◌≤◌, Bool, true, false, ltb, ◌⊎◌, List, [], ◌∷◌, ◌++◌, map, length, get_or, take, drop, Some, None, Ok, Err, Option, Result, sym, refl, ap, ◌∙◌, subst, inl, inr, ⊎_elim, append_assoc, append-nil, arith, length-append, lt-ltb}
+use Rattle.std.proofs.Common.{◌≡◌, ℕ, ◌+◌, ◌<◌, ◌≤◌, true, ltb, List, [], ◌∷◌, ◌++◌, length, take, drop, Some, None, Ok, Err, Option, Result, sym, refl, ap, ◌∙◌, subst, ⊎_elim, append_assoc, append-nil, arith, length-append, lt-ltb}
 use Rattle.std.proofs.lemmas.List.{take-append-le, take_all, get_or_at}
 use Rattle.faults.specs.declared.Placed.{Placed}
 use Rattle.faults.specs.declared.TextFault.{TextFault}
 use Rattle.faults.specs.declared.TextFault.TheVariants.{Form, Number, Order, Reference, Limit, Repeat}
 use Rattle.faults.specs.Numbers.{text_number}
 use Rattle.faults.proofs.Once.{least_once}
-use Rattle.text.specs.Slots.{Lacks, written, commas}
+use Rattle.text.specs.Slots.{Lacks}
 use Rattle.text.proofs.Laws.{none_some}
 use Rattle.rows.specs.declared.forms.Row.{Row}
-use Rattle.rows.specs.declared.forms.Section.{Section}
 use Rattle.rows.specs.declared.forms.Section.TheVariants.{Types, Variables, Methods, Globals, Terms}
 use Rattle.rows.specs.declared.tally.Counts.{Counts}
-use Rattle.rows.specs.Printing.{slots, row_line, row_lines}
-use Rattle.rows.specs.Faults.{Faultless, Least, NoneOf, RowFault, NumbersInRange}
+use Rattle.rows.specs.Printing.{row_line, row_lines}
+use Rattle.rows.specs.Faults.{Faultless, Least, NoneOf, RowFault}
 use Rattle.rows.specs.Tallies.{CountsOf}
-use Rattle.reader.specs.Text.{LineFault, FirstLine, Spells, Granted, RefusedAfter, Reads, most_bytes}
+use Rattle.reader.specs.Text.{LineFault, FirstLine, Granted, RefusedAfter, Reads}
 use Rattle.reader.proofs.Lines.{line_body, spells_one, no_line_fault}
 
 -- a fault is told by its number

@@ -1,6 +1,6 @@
 -- The row that the fields of a line spell, worked out field by field. The laws that tie this to the printing of rows are
 -- in Text.antt, and the contract of `read` speaks of those alone.
-use Rattle.std.specs.Prelude.{ℕ, Bool, true, false, List, [], ◌∷◌, length, ℤ, is_some, Some, None, Option, ◌==◌}
+use Rattle.std.specs.Prelude.{ℕ, Bool, false, List, [], ◌∷◌, length, ℤ, Some, None, Option, ◌==◌}
 use Rattle.std.specs.Option.{option_map}
 use Rattle.arithmetic.specs.declared.Operation.{Operation}
 use Rattle.arithmetic.specs.Words.{operation_word, operation_table}

@@ -8,8 +8,8 @@ use Rattle.text.specs.Slots.{Lacks}
 use Rattle.text.specs.Lines.{Formed as FormedBy, Spells as SpellsBy}
 use Rattle.rows.specs.declared.forms.Row.{Row}
 use Rattle.rows.specs.declared.tally.Counts.{Counts}
-use Rattle.rows.specs.Printing.{slots, row_line, row_lines}
-use Rattle.rows.specs.Faults.{Faultless, Least, NumbersInRange, RowFault}
+use Rattle.rows.specs.Printing.{slots, row_lines}
+use Rattle.rows.specs.Faults.{Faultless, Least, RowFault}
 use Rattle.rows.specs.Tallies.{CountsOf}
 
 -- a line has a form where it is the printing of some row, with any comma-free bytes in the place of its numbers

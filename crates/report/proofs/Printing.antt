@@ -1,5 +1,5 @@
 -- The bytes that are written are the line of the answer. Assumes nothing.
-use Rattle.std.proofs.Common.{◌≡◌, ℕ, List, [], ◌∷◌, ◌++◌, Ok, Err, codes, decimal, sym, refl, append_assoc}
+use Rattle.std.proofs.Common.{◌≡◌, ◌++◌, Ok, Err, codes, decimal, sym, append_assoc}
 use Rattle.faults.specs.declared.Placed.{Placed}
 use Rattle.faults.specs.declared.PlayFault.{PlayFault}
 use Rattle.faults.specs.Numbers.{play_number}

@@ -1,5 +1,5 @@
 -- What a tally tells of the rows that it is the tally of. Assumes nothing.
-use Rattle.std.proofs.Common.{◌≡◌, ℕ, ◌+◌, ◌<◌, ◌≤◌, Bool, true, false, cond, ◌&&◌, eqb, ltb, ◌≢◌, ◌⊎◌, List, [], ◌∷◌, ◌++◌, length, get_or, set, sym, refl, ap, ◌∙◌, subst, inl, inr, ⊎_elim, add-zero, add_assoc, zero-add, arith, lit<, length-append, ltb-true, lt-ltb}
+use Rattle.std.proofs.Common.{◌≡◌, ℕ, ◌+◌, ◌<◌, ◌≤◌, Bool, true, false, cond, eqb, ltb, ◌≢◌, ◌⊎◌, List, [], ◌∷◌, ◌++◌, length, get_or, set, sym, refl, ap, ◌∙◌, inl, inr, ⊎_elim, add-zero, add_assoc, zero-add, arith, lit<, length-append, ltb-true, lt-ltb}
 use Rattle.std.specs.List.{AllByRecursion}
 use Rattle.std.proofs.lemmas.List.{get_or_append_left, get_or_push, get_or-set_same, get_or-set_other}
 use Rattle.std.proofs.lemmas.Bool.{and_parts, and_from}
@@ -7,17 +7,16 @@ use Rattle.std.proofs.str.Laws.{order}
 use Rattle.faults.specs.declared.TextFault.{TextFault}
 use Rattle.faults.specs.Numbers.{text_number}
 use Rattle.faults.specs.declared.TextFault.TheVariants.{Form, Number, Order, Reference, Limit, Repeat}
-use Rattle.rows.specs.declared.forms.TypeForm.{TypeForm}
 use Rattle.rows.specs.declared.forms.TypeForm.TheVariants.{Unit as UnitType, Int as IntType, Pair as PairType, Fun as FunType}
 use Rattle.rows.specs.declared.forms.Row.{Row}
 use Rattle.rows.specs.declared.forms.Row.TheVariants.{«Type» as TypeRow, Variable as VariableRow, Method as MethodRow, Global as GlobalRow, Term as TermRow}
 use Rattle.rows.specs.declared.forms.Section.{Section}
 use Rattle.rows.specs.declared.forms.Section.TheVariants.{Types, Variables, Methods, Globals, Terms}
 use Rattle.rows.specs.declared.tally.Counts.{Counts}
-use Rattle.rows.specs.Sections.{section, running, place, limit, count, references}
+use Rattle.rows.specs.Sections.{section, place, limit, count, references}
 use Rattle.rows.specs.Types.{Tree, unit, leaves, tree, types, types_after, with_row}
-use Rattle.rows.specs.Faults.{NumbersInRange, InOrder, RefersBack, WithinLimits, ListedBefore, RowFault, Least, NoneOf, row_leaves}
-use Rattle.rows.specs.Tallies.{counted, later_count, all_below, Tallied, leaves_by, form_leaves_by, counts_with, leaves_with, OrderBy, PlaceBy}
+use Rattle.rows.specs.Faults.{NumbersInRange, InOrder, WithinLimits, ListedBefore, RowFault, Least, NoneOf, row_leaves}
+use Rattle.rows.specs.Tallies.{counted, later_count, all_below, Tallied, leaves_by, counts_with, leaves_with, OrderBy, PlaceBy}
 
 -- no section after sec has a row where the sum of their counts is 0
 none_later : (c : Counts) (sec s : Section) → later_count c sec ≡ 0 → place sec < place s → counted c s ≡ 0

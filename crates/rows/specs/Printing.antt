@@ -1,5 +1,5 @@
 -- How each row is printed: one line, field by field. Assumes nothing.
-use Rattle.std.specs.Prelude.{ℕ, List, [], ◌∷◌, ◌++◌, map, codes}
+use Rattle.std.specs.Prelude.{ℕ, List, [], ◌∷◌, ◌++◌, codes}
 use Rattle.arithmetic.specs.Words.{operation_word}
 use Rattle.text.specs.Slots.{Slot, literal, number, word, printed}
 use Rattle.rows.specs.declared.forms.TypeForm.{TypeForm}

@@ -8,7 +8,7 @@ use Rattle.rows.specs.declared.forms.Section.{Section}
 use Rattle.rows.specs.declared.forms.Section.TheVariants.{Types, Variables, Methods, Globals, Terms}
 use Rattle.rows.specs.declared.tally.Counts.{Counts}
 use Rattle.rows.specs.Sections.{count, limit, running, section}
-use Rattle.rows.specs.Types.{Tree, unit, leaves, types}
+use Rattle.rows.specs.Types.{unit, leaves, types}
 
 -- the count of a section
 abbrev pub counted : Counts → Section → ℕ

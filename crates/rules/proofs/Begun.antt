@@ -1,10 +1,10 @@
 -- A mounted library begins typed, so it is never stuck.
-use Rattle.std.proofs.Common.{◌≡◌, ℕ, zero, suc, ◌+◌, ◌*◌, ◌<◌, ◌≤◌, Bool, true, false, ◌⊎◌, List, [], ◌∷◌, ◌++◌, length, get_or, ℤ, Some, None, Option, sym, refl, ap, ◌∙◌, subst, inl, inr, append_assoc, append-nil, arith, length-append}
+use Rattle.std.proofs.Common.{◌≡◌, ℕ, zero, suc, ◌+◌, ◌<◌, ◌≤◌, true, ◌⊎◌, List, [], ◌∷◌, ◌++◌, length, get_or, ℤ, Some, None, Option, sym, refl, ap, ◌∙◌, subst, inl, inr, append_assoc, append-nil, arith, length-append}
 use mathlib.Core.List.{Memᴰ}
 use mathlib.Core.Option.{some}
 use Rattle.std.specs.List.{slice_get}
 use Rattle.std.proofs.str.Laws.{order}
-use Rattle.arithmetic.specs.Meaning.{Meaning, Closed}
+use Rattle.arithmetic.specs.Meaning.{Meaning}
 use Rattle.faults.specs.declared.TextFault.TheVariants.{Limit}
 use Rattle.rows.specs.declared.forms.TypeForm.{TypeForm}
 use Rattle.rows.specs.declared.forms.TypeForm.TheVariants.{Unit as UnitType, Int as IntType, Pair as PairType, Fun as FunType}
@@ -13,25 +13,22 @@ use Rattle.rows.specs.declared.forms.MethodForm.TheVariants.{Abstract, Public, P
 use Rattle.rows.specs.declared.forms.TermForm.TheVariants.{Num, Lam}
 use Rattle.rows.specs.declared.forms.Row.{Row}
 use Rattle.rows.specs.declared.forms.Row.TheVariants.{«Type» as TypeRow, Variable as VariableRow, Method as MethodRow, Global as GlobalRow, Term as TermRow}
-use Rattle.rows.specs.declared.forms.Section.{Section}
-use Rattle.rows.specs.declared.forms.Section.TheVariants.{Types, Variables, Methods, Globals, Terms}
+use Rattle.rows.specs.declared.forms.Section.TheVariants.{Variables, Methods, Globals}
 use Rattle.rows.specs.Sections.{section, limit, count}
-use Rattle.rows.specs.Faults.{Faultless, NoneOf, RowFault, WithinLimits, row_leaves}
-use Rattle.rows.specs.Types.{Tree, leaves, tree, with_row, types_after, types, unit as unit_type, int as int_type, pair as pair_type, fun as function_type}
+use Rattle.rows.specs.Faults.{NoneOf, RowFault, WithinLimits, row_leaves}
+use Rattle.rows.specs.Types.{Tree, leaves, tree, with_row, types_after, types, unit as unit_type, int as int_type, fun as function_type}
 use Rattle.library.specs.Listing.{section_rows, method_type, method_type_of, global_type_of, variable_type_of}
-use Rattle.library.specs.Typing.{TermIs, HasType, MethodHas, GlobalHas, VariableHas}
-use Rattle.library.specs.Definitions.{FunctionType, ClosedFunction, MethodRule, GlobalRule}
-use Rattle.rules.specs.Terms.{Term, Value, word, name, ⟨⟩, num, lam, ⌊◌⌋}
+use Rattle.library.specs.Definitions.{ClosedFunction, MethodRule, GlobalRule}
+use Rattle.rules.specs.Terms.{Term, Value, word, name, ⟨⟩, lam, ⌊◌⌋}
 use Rattle.rules.specs.Memory.{Entry, host_name, library_name, Memory, at}
 use Rattle.rules.specs.Unfolding.{listed_type, argument, result, variable_types, variable_type, unfolded, Begins, with_word, with_function, begins, method_body, method_entry, method_entries, with_beginning, with_globals, start_memory}
-use Rattle.rules.specs.Game.{Game, Position, start, Pass}
-use Rattle.rules.specs.Plays.{Run}
-use Rattle.rules.specs.Mounted.{Mounted, LawfulNumbers, Playable}
+use Rattle.rules.specs.Game.{Game, start}
+use Rattle.rules.specs.Mounted.{Mounted, LawfulNumbers}
 use Rattle.rules.specs.Laws.{PlayableIsNeverStuck, PlayableHasFewNames}
 use Rattle.rules.proofs.Typed.{Typed, Grows}
 use Rattle.rules.proofs.Unfolded.{EachGood, good_from, count_append, form_at, tree_typed}
 use Rattle.rules.proofs.Counts.{within_steps}
-use Rattle.rules.proofs.Preserved.{Small, EntryOk, EntriesOk, GlobalsOk, PositionOk, entry_grow, entries_push, globals_grow, grows_push, with_one, new_type, run_ok, typed_goes}
+use Rattle.rules.proofs.Preserved.{Small, EntryOk, EntriesOk, GlobalsOk, PositionOk, entry_grow, globals_grow, grows_push, with_one, new_type, run_ok, typed_goes}
 
 -- what a row may not break
 limits_stable : (b : List Row) (r : Row) → NoneOf (RowFault true b r) → (count (section r) b < limit (section r)) × (row_leaves b r ≤ 4)

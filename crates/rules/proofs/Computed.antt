@@ -1,11 +1,11 @@
 -- The worked plays, by computation.
-use Rattle.std.proofs.Common.{◌≡◌, ℕ, zero, suc, ◌≤◌, Bool, true, false, ltb, List, [], ◌∷◌, ◌++◌, refl, arith}
+use Rattle.std.proofs.Common.{◌≡◌, ℕ, zero, suc, ◌≤◌, Bool, true, false, ltb, List, [], ◌++◌, refl, arith}
 use Rattle.std.specs.Fmt.{digits}
 use Rattle.std.specs.Int.{int_wrap}
-use Rattle.arithmetic.specs.Meaning.{Meaning, WordList}
+use Rattle.arithmetic.specs.Meaning.{WordList}
 use Rattle.rules.specs.Enumeration.{at_turn, where_true, plays_from, Played}
 use Rattle.rules.specs.Game.{Game, Position, start}
-use Rattle.rules.specs.Verdicts.{verdict, tried, safe}
+use Rattle.rules.specs.Verdicts.{tried, safe}
 use Rattle.rules.specs.Libraries.{empty}
 use Rattle.rules.specs.Worked.{Spelled, Worked}
 

@@ -1,5 +1,5 @@
 -- A play's moves determine the play.
-use Rattle.std.proofs.Common.{◌≡◌, ℕ, zero, suc, ◌+◌, ◌-◌, ◌<◌, ◌≤◌, Bool, true, false, List, [], ◌∷◌, ◌++◌, length, replicate, ℤ, pos, sym, refl, ap, ◌∙◌, subst, append_assoc, arith}
+use Rattle.std.proofs.Common.{◌≡◌, ℕ, suc, ◌<◌, List, [], ◌∷◌, ◌++◌, length, ℤ, sym, refl, ap, ◌∙◌, subst, append_assoc, arith}
 use mathlib.Core.Option.{Option, none, some}
 use Rattle.arithmetic.specs.Meaning.{Meaning}
 use Rattle.rows.specs.Types.{Tree, unit as unit_type, int as int_type, pair as pair_type, fun as function_type}
@@ -9,9 +9,9 @@ use Rattle.rules.specs.Game.{Game, Pending, library_waits, host_waits, Position,
 use Rattle.rules.specs.Game as rule
 use Rattle.rules.specs.Plays.{Run, Ending, failed, cut_by_depth, cut_by_steps, turn, Ends, Move, call, answer, words, four, host_moves, Play, PlayFrom}
 use Rattle.rules.specs.Plays as play
-use Rattle.rules.specs.Enumeration.{Next, goes_on, hands, fails, deep, no_step, library_next}
-use Rattle.rules.specs.Laws.{SamePlay, MovesDetermineThePlay}
-use Rattle.rules.proofs.Nexts.{did, NextIs, step_next, fails_next, deep_next}
+use Rattle.rules.specs.Enumeration.{Next, goes_on, hands, fails, deep}
+use Rattle.rules.specs.Laws.{MovesDetermineThePlay}
+use Rattle.rules.proofs.Nexts.{NextIs, step_next, fails_next, deep_next}
 
 -- what a value that the host says at a type is
 abbrev pub Said : Meaning → Tree → List Entry → Value → List Entry → Type 0

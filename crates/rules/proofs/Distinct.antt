@@ -1,5 +1,5 @@
 -- No name is shown twice, so no play comes before itself, and the list of full plays is without repetition.
-use Rattle.std.proofs.Common.{◌≡◌, ℕ, zero, suc, ◌+◌, ◌<◌, ◌≤◌, Bool, true, false, ◌||◌, eqb, ◌⊎◌, List, [], ◌∷◌, ◌++◌, map, length, ℤ, sym, refl, ap, ◌∙◌, subst, inl, inr, ⊎_elim, arith, eq-eqb}
+use Rattle.std.proofs.Common.{◌≡◌, ℕ, suc, ◌≤◌, Bool, true, false, ◌||◌, eqb, ◌⊎◌, List, [], ◌∷◌, ◌++◌, map, ℤ, sym, refl, ◌∙◌, subst, inl, inr, arith, eq-eqb}
 use mathlib.Core.List.Memᴰ
 use mathlib.Core.List.{Memᴰ}
 use mathlib.Core.Option.{Option, none, some}
@@ -9,7 +9,7 @@ use Rattle.rows.specs.declared.forms.MethodForm.TheVariants.{Abstract, Public, P
 use Rattle.rows.specs.declared.forms.Row.{Row}
 use Rattle.rows.specs.declared.forms.Row.TheVariants.{«Type» as TypeRow, Variable as VariableRow, Method as MethodRow, Global as GlobalRow, Term as TermRow}
 use Rattle.rules.specs.Terms.{Value, unit, word, name, pair}
-use Rattle.rules.specs.Memory.{Entry, host_name, library_name, Memory, at}
+use Rattle.rules.specs.Memory.{Entry, host_name, library_name, at}
 use Rattle.rules.specs.Unfolding.{public_from}
 use Rattle.rules.specs.Game.{Game, Position, library_runs, host_turn, start, Pass, stands, show_once, shown, ◌⊢◌─◌⟹◌}
 use Rattle.rules.specs.Game as rule
@@ -18,7 +18,7 @@ use Rattle.rules.specs.Plays as play
 use Rattle.rules.specs.Enumeration.{Played, played, moves_of, full_plays}
 use Rattle.rules.specs.Order.{StandsBefore, WordsBefore, Ahead, BeforeFrom, Before, Ascending, WithoutRepetition}
 use Rattle.rules.specs.Order as order
-use Rattle.rules.specs.Laws.{InOrder, FullPlaysAreInOrder}
+use Rattle.rules.specs.Laws.{FullPlaysAreInOrder}
 use Rattle.rules.specs.Ranges.{AllPlays}
 use Rattle.rules.proofs.Ordered.{all_plays}
 

@@ -1,12 +1,11 @@
 -- Every play extends to a full play, where the library is never stuck.
-use Rattle.std.proofs.Common.{◌≡◌, ℕ, zero, suc, ◌+◌, ◌-◌, ◌<◌, ◌≤◌, ◌⊎◌, List, [], ◌∷◌, ◌++◌, map, sym, refl, ap, ◌∙◌, subst, inl, inr, append_assoc, arith}
+use Rattle.std.proofs.Common.{◌≡◌, ℕ, zero, suc, ◌+◌, ◌-◌, ◌<◌, ◌≤◌, List, [], ◌∷◌, ◌++◌, sym, refl, ap, ◌∙◌, subst, inl, inr, arith}
 use mathlib.Core.List.Memᴰ
 use mathlib.Core.List.{Memᴰ}
 use mathlib.Core.Option.{Option, none, some}
 use Rattle.arithmetic.specs.Meaning.{WordList, Listed}
-use Rattle.rules.specs.Terms.{Term}
 use Rattle.rules.specs.Memory.{Memory}
-use Rattle.rules.specs.Game.{Game, Pending, Position, library_runs, host_turn, start, Pass, host_call, host_answer, library_call, library_answer, ◌⊢◌─◌⟹◌}
+use Rattle.rules.specs.Game.{Game, Pending, Position, library_runs, host_turn, Pass, host_call, host_answer, library_call, library_answer, ◌⊢◌─◌⟹◌}
 use Rattle.rules.specs.Plays.{Run, Ends, Ending, Move, call, answer, words, four, host_moves, Play, FullPlay, FullFrom}
 use Rattle.rules.specs.Plays as play
 use Rattle.rules.specs.Enumeration.{Next, goes_on, hands, fails, deep, no_step, library_next, Reply, reply, replies, Played, played, after, after_each, after_next, at_turn, plays_from}

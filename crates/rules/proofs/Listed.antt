@@ -1,17 +1,16 @@
 -- The list of full plays holds exactly the full plays.
-use Rattle.std.proofs.Common.{◌≡◌, ℕ, zero, suc, ◌+◌, ◌<◌, ◌≤◌, ◌⊎◌, List, [], ◌∷◌, ◌++◌, map, sym, refl, ap, ◌∙◌, subst, inl, inr, arith}
+use Rattle.std.proofs.Common.{◌≡◌, ℕ, zero, suc, ◌+◌, ◌<◌, ◌⊎◌, List, [], ◌∷◌, map, sym, refl, subst, inl, inr, arith}
 use mathlib.Core.List.{Memᴰ}
-use mathlib.Core.Option.{Option, none, some}
-use Rattle.arithmetic.specs.Meaning.{Meaning, WordList, Listed}
-use Rattle.rules.specs.Terms.{Term}
+use mathlib.Core.Option.{none, some}
+use Rattle.arithmetic.specs.Meaning.{WordList, Listed}
 use Rattle.rules.specs.Memory.{Memory}
-use Rattle.rules.specs.Game.{Game, Pending, Position, library_runs, host_turn, start, Pass, ◌⊢◌─◌⟹◌, Fails, TooDeep}
+use Rattle.rules.specs.Game.{Game, Pending, Position, library_runs, host_turn, start, Pass, ◌⊢◌─◌⟹◌}
 use Rattle.rules.specs.Plays.{Run, Ending, failed, cut_by_depth, cut_by_steps, turn, Ends, PlayFrom, FullFrom, NoMove}
 use Rattle.rules.specs.Plays as play
-use Rattle.rules.specs.Enumeration.{Next, goes_on, hands, fails, deep, no_step, library_next, Reply, reply, replies, Played, played, after, after_each, after_next, at_turn, plays_from, full_plays}
-use Rattle.rules.specs.Laws.{ExactlyTheFullPlays, FullPlaysAreListed}
+use Rattle.rules.specs.Enumeration.{Next, goes_on, hands, fails, deep, no_step, library_next, Reply, reply, replies, Played, played, after, after_each, after_next, at_turn, plays_from}
+use Rattle.rules.specs.Laws.{FullPlaysAreListed}
 use Rattle.rules.proofs.Sayings.{replies_are, move_listed}
-use Rattle.rules.proofs.Nexts.{did, NextIs, step_next, fails_next, deep_next, IsSo, next_so}
+use Rattle.rules.proofs.Nexts.{step_next, fails_next, deep_next, IsSo, next_so}
 
 -- a play after a reply of the list
 among : (plays : Position → List Played) (rs : List Reply) (a : Pass) (q : Position) (trace : List Pass) (e : Ending) (s : ℕ) → Memᴰ (reply a q) rs → Memᴰ (played trace e s) (plays q) → Memᴰ (played (a ∷ trace) e s) (after_each plays rs)

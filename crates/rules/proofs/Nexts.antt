@@ -1,8 +1,7 @@
 -- What the library does next, by the relation and by the function.
-use Rattle.std.proofs.Common.{◌≡◌, ℕ, zero, suc, ◌<◌, ◌≤◌, Bool, true, false, ltb, List, [], ◌∷◌, ℤ, sym, refl, ap, ◌∙◌, subst, ltb-false, ltb-true, le-ltb, lt-ltb}
+use Rattle.std.proofs.Common.{◌≡◌, ℕ, Bool, true, false, ltb, List, [], ◌∷◌, ℤ, refl, ap, subst, ltb-false, ltb-true, le-ltb, lt-ltb}
 use mathlib.Core.Option.{Option, none, some, none-ne-some, some-injective}
-use Rattle.arithmetic.specs.Meaning.{Meaning}
-use Rattle.rules.specs.Terms.{Term, Value, Context, plug, ⌊◌⌋, ⟨⟩, num, app, meth, assert, get, ite, choose}
+use Rattle.rules.specs.Terms.{Term, Value, Context, plug, ⌊◌⌋, num, app, meth, assert, get}
 use Rattle.rules.specs.Memory.{Entry, host_name, library_name, Memory, at}
 use Rattle.rules.specs.Steps.{State, ◌∣◌, ◌⊢◌⟶◌}
 use Rattle.rules.specs.Steps as step

@@ -1,17 +1,15 @@
 -- Typed positions: each step of the game keeps them typed and adds at most four names, and none is stuck.
-use Rattle.std.proofs.Common.{◌≡◌, ℕ, zero, suc, ◌+◌, ◌*◌, ◌<◌, ◌≤◌, Bool, true, false, ◌⊎◌, List, [], ◌∷◌, ◌++◌, length, set, ℤ, sym, refl, ap, ◌∙◌, subst, inl, inr, arith, length-append}
-use mathlib.Core.List.{Memᴰ}
+use Rattle.std.proofs.Common.{◌≡◌, ℕ, zero, suc, ◌+◌, ◌*◌, ◌<◌, ◌≤◌, Bool, true, false, ◌⊎◌, List, [], ◌∷◌, ◌++◌, length, set, sym, refl, ap, ◌∙◌, subst, inl, inr, arith, length-append}
 use mathlib.Core.Option.{Option, none, some}
 use Rattle.std.proofs.str.Laws.{order}
 use Rattle.arithmetic.specs.Meaning.{Meaning, Closed}
 use Rattle.rows.specs.Types.{Tree, leaves, unit as unit_type, int as int_type, pair as pair_type, fun as function_type}
-use Rattle.rules.specs.Terms.{Term, Value, Context, choose, plug, ⌊◌⌋, ◌⟨◌/◌⟩}
+use Rattle.rules.specs.Terms.{Term, Value, Context, plug, ⌊◌⌋, ◌⟨◌/◌⟩}
 use Rattle.rules.specs.Terms.{⟨⟩, num, meth, get, lam, put, op, tuple, fst, snd, app, ite, let_in, assert, ⟪◌⟫}
-use Rattle.rules.specs.Terms.{unit, word, name, pair}
-use Rattle.rules.specs.Memory.{Entry, host_name, library_name, Memory, at, with_names}
+use Rattle.rules.specs.Memory.{Entry, host_name, library_name, Memory, at}
 use Rattle.rules.specs.Steps.{State, ◌∣◌, ◌⊢◌⟶◌}
 use Rattle.rules.specs.Steps as step
-use Rattle.rules.specs.Stepping.{Redex, ⌈◌⌉, Parts, value, redex, neither, parts, Contracted, to, failing, asks, stuck, contract, reading, asserting, calling}
+use Rattle.rules.specs.Stepping.{Redex, ⌈◌⌉, Parts, value, redex, neither, parts, contract, reading, asserting, calling}
 use Rattle.rules.specs.Stepping.{lam!, let!, op!, fst!, snd!, ite!, get!, put!, assert!, call!, leave! }
 use Rattle.rules.specs.Game.{Game, Pending, library_waits, host_waits, Position, library_runs, host_turn, Pass, Says, ◌⊢◌─◌⟹◌, Fails, TooDeep}
 use Rattle.rules.specs.Game as rule

@@ -6,23 +6,23 @@ use Rattle.std.specs.List.{slice_get, AllByRecursion}
 use Rattle.std.proofs.lemmas.List.{take-append-le, take_all, get_or_at}
 use Rattle.std.proofs.str.Laws.{order}
 use Rattle.arithmetic.specs.Meaning.{Meaning}
-use Rattle.faults.specs.declared.TextFault.TheVariants.{Form, Number, Order, Reference, Limit, Repeat}
+use Rattle.faults.specs.declared.TextFault.TheVariants.{Reference}
 use Rattle.rows.specs.declared.forms.TermForm.{TermForm}
 use Rattle.rows.specs.declared.forms.TermForm.TheVariants.{Unit as UnitForm, Num, Var, Meth, Get, Lam, Set, Op, Pair, Fst, Snd, App, If, Let, Assert}
 use Rattle.rows.specs.declared.forms.Row.{Row}
 use Rattle.rows.specs.declared.forms.Row.TheVariants.{«Type» as TypeRow, Variable as VariableRow, Method as MethodRow, Global as GlobalRow, Term as TermRow}
 use Rattle.rows.specs.declared.forms.Section.{Section}
-use Rattle.rows.specs.declared.forms.Section.TheVariants.{Types, Variables, Methods, Globals, Terms}
-use Rattle.rows.specs.Sections.{section, place, count, references}
+use Rattle.rows.specs.declared.forms.Section.TheVariants.{Terms}
+use Rattle.rows.specs.Sections.{count, references}
 use Rattle.rows.specs.Faults.{Faultless, NoneOf, RowFault, RefersBack}
-use Rattle.rows.specs.Types.{Tree, types, unit as unit_type, int as int_type, pair as pair_type, fun as function_type}
-use Rattle.library.specs.Listing.{section_rows, term_at, term_of}
+use Rattle.rows.specs.Types.{Tree, int as int_type, pair as pair_type, fun as function_type}
+use Rattle.library.specs.Listing.{section_rows, term_of}
 use Rattle.library.specs.Typing.{TermIs, HasType, Names, VariableHas, MethodHas, GlobalHas}
 use Rattle.library.specs.Typing as typing
 use Rattle.library.specs.Closed.{Free, parts}
 use Rattle.library.specs.Closed as free
 use Rattle.rules.specs.Terms.{Term}
-use Rattle.rules.specs.Terms.{⟨⟩, num, var, meth, get, lam, put, op, tuple, fst, snd, app, ite, let_in, assert, ⟪◌⟫}
+use Rattle.rules.specs.Terms.{⟨⟩}
 use Rattle.rules.specs.Memory.{at}
 use mathlib.Core.Option.{some}
 use Rattle.rules.specs.Unfolding.{formed, terms_after, unfolded, variable_type}

@@ -3,7 +3,7 @@
 -- holds exactly the full plays.
 use Rattle.std.specs.Prelude.{ℕ, zero, suc, Bool, true, false, List, [], ◌∷◌, ◌++◌, map, length, ℤ, nat_lt}
 use Rattle.std.proofs.Math.Option.{Option, none, some}
-use Rattle.arithmetic.specs.Meaning.{Meaning, WordList}
+use Rattle.arithmetic.specs.Meaning.{WordList}
 use Rattle.rows.specs.Types.{Tree, unit as unit_type, int as int_type, pair as pair_type, fun as function_type}
 use Rattle.rules.specs.Terms.{Term, Value, Context, plug, ⌊◌⌋, app, meth, unit, word, name, pair}
 use Rattle.rules.specs.Memory.{Entry, host_name, library_name, Memory, at, with_names}

@@ -8,7 +8,7 @@ use Rattle.rows.specs.declared.forms.Row.{Row}
 use Rattle.rows.specs.Types.{Tree, unit as unit_type, int as int_type, pair as pair_type, fun as function_type}
 use Rattle.rules.specs.Terms.{Term, Value, Context, plug, ⌊◌⌋, num, app, meth, assert, unit, word, name, pair}
 use Rattle.rules.specs.Memory.{Entry, host_name, library_name, Memory, at, with_names}
-use Rattle.rules.specs.Steps.{State, ◌∣◌, ◌⊢◌⟶◌}
+use Rattle.rules.specs.Steps.{◌∣◌, ◌⊢◌⟶◌}
 use Rattle.rules.specs.Unfolding.{start_memory, public_methods}
 
 -- what a game is played over: a library's rows, the meaning of an arithmetic, and bounds: how many bodies may be entered

@@ -7,7 +7,7 @@ use Rattle.rules.specs.Memory.{Entry}
 use Rattle.rules.specs.Mounted.{Playable}
 use Rattle.rules.specs.Game.{Game, Position, library_runs, host_turn, Pass, start, ◌⊢◌─◌⟹◌}
 use Rattle.rules.specs.Listings.{listing}
-use Rattle.rules.specs.Plays.{Run, Ending, Ends, Move, host_moves, PlayFrom, FullFrom, Play, FullPlay, LosingPlay}
+use Rattle.rules.specs.Plays.{Run, Ending, Ends, Move, FullFrom, Play, FullPlay, LosingPlay}
 use Rattle.rules.specs.Enumeration.{played, full_plays, moves_of}
 use Rattle.rules.specs.Order.{Before, Ascending, WithoutRepetition, Counted}
 

@@ -1,7 +1,6 @@
 -- Plays: runs with the steps counted, endings, the host's moves, full plays and losing plays. Assumes nothing.
-use Rattle.std.specs.Prelude.{◌≡◌, ℕ, zero, suc, ◌-◌, ◌<◌, ◌≤◌, List, [], ◌∷◌, ◌++◌, length, replicate, ℤ, pos}
-use mathlib.Core.List.{Memᴰ}
-use Rattle.std.proofs.Math.Option.{Option, none, some}
+use Rattle.std.specs.Prelude.{◌≡◌, ℕ, suc, ◌-◌, ◌<◌, List, [], ◌∷◌, ◌++◌, length, replicate, ℤ, pos}
+use Rattle.std.proofs.Math.Option.{none, some}
 use Rattle.rules.specs.Terms.{Value, unit, word, name, pair}
 use Rattle.rules.specs.Memory.{Memory}
 use Rattle.rules.specs.Game.{Game, Pending, Position, host_turn, start, Pass, host_call, host_answer, library_call, library_answer, ◌⊢◌─◌⟹◌, Fails, TooDeep}

@@ -6,7 +6,7 @@ use Rattle.arithmetic.specs.declared.Operation.{Operation}
 use Rattle.rows.specs.Types.{Tree}
 use Rattle.rules.specs.Terms.{Term, Value, Context, plug, ⌊◌⌋, ◌⟨◌/◌⟩}
 use Rattle.rules.specs.Terms.{⟨⟩, num, meth, get, lam, put, op, tuple, fst, snd, app, ite, let_in, assert, ⟪◌⟫}
-use Rattle.rules.specs.Memory.{Entry, library_name, Memory, at, with_name, with_global, deeper, shallower}
+use Rattle.rules.specs.Memory.{library_name, Memory, at, with_name, with_global, deeper, shallower}
 
 -- a term with the memory that it acts on
 infix 25 ◌∣◌

@@ -8,7 +8,7 @@ use Rattle.rows.specs.declared.forms.TermForm.TheVariants.{Unit as UnitForm, Num
 use Rattle.rows.specs.declared.forms.Row.{Row}
 use Rattle.rows.specs.declared.forms.Row.TheVariants.{«Type» as TypeRow, Variable as VariableRow, Method as MethodRow, Global as GlobalRow, Term as TermRow}
 use Rattle.rows.specs.Types.{Tree, types, unit as unit_type, int as int_type, pair as pair_type, fun as function_type}
-use Rattle.rules.specs.Terms.{Term, Value, word, name}
+use Rattle.rules.specs.Terms.{Term, word, name}
 use Rattle.rules.specs.Terms.{⟨⟩, num, var, meth, get, lam, put, op, tuple, fst, snd, app, ite, let_in, assert, ⟪◌⟫}
 use Rattle.rules.specs.Memory.{Entry, host_name, library_name, Memory}
 

@@ -1,8 +1,8 @@
 -- What trying the full plays in order comes to. Assumes nothing.
-use Rattle.std.specs.Prelude.{ℕ, suc, Bool, true, false, ◌||◌, List, [], ◌∷◌}
+use Rattle.std.specs.Prelude.{ℕ, suc, Bool, true, false, List, [], ◌∷◌}
 use Rattle.arithmetic.specs.Meaning.{WordList}
 use Rattle.rules.specs.Game.{Game, Pass}
-use Rattle.rules.specs.Plays.{Ending, failed, cut_by_depth, cut_by_steps, turn}
+use Rattle.rules.specs.Plays.{failed, cut_by_depth, cut_by_steps, turn}
 use Rattle.rules.specs.Enumeration.{Played, played, full_plays}
 
 -- lost with what passed in the first failed play, and its steps, or safe; with how many plays were tried, and whether one of them was cut by

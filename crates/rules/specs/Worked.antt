@@ -8,7 +8,7 @@ use Rattle.rows.specs.declared.forms.Row.{Row}
 use Rattle.rows.specs.Printing.{row_lines}
 use Rattle.rules.specs.Terms.{Value, unit, word, name, pair}
 use Rattle.rules.specs.Game.{Game, Pass, host_call, host_answer, library_call, library_answer}
-use Rattle.rules.specs.Plays.{Ending, failed, cut_by_depth, cut_by_steps, turn}
+use Rattle.rules.specs.Plays.{failed, cut_by_depth, cut_by_steps, turn}
 use Rattle.rules.specs.Enumeration.{Played, played, full_plays}
 use Rattle.rules.specs.Verdicts.{Verdict, lost, safe, verdict}
 use Rattle.rules.specs.Listings.{listing}

@@ -1,8 +1,7 @@
-use Rattle.std.proofs.Common.{◌≡◌, ℕ, ◌-◌, ◌<◌, ◌≤◌, ltb, List, [], ◌∷◌, ◌++◌, length, take, drop, sym, refl, ap, ◌∙◌, subst, inl, inr, append_assoc, append-nil, arith, true-eqb, false-eqb}
-use Rattle.rows.specs.declared.tally.Counts.{Counts}
+use Rattle.std.proofs.Common.{◌≡◌, ℕ, ◌-◌, ◌<◌, ltb, List, [], ◌∷◌, ◌++◌, length, take, sym, refl, ap, ◌∙◌, subst, inl, inr, append_assoc, append-nil, arith, true-eqb, false-eqb}
 use Rattle.rows.specs.Faults.{Least, NoneOf, RowFault}
 use Rattle.rows.specs.Tallies.{Tallied}
-use Rattle.reader.specs.Text.{FirstLine, LineFault, Reads, Spells, most_bytes}
+use Rattle.reader.specs.Text.{FirstLine, LineFault, Reads}
 use Rattle.text.specs.Slots.{Lacks}
 use Rattle.reader.proofs.Lines.{unended_least}
 use Rattle.reader.proofs.Progress.{inside, shorter, one_more, all_rows, refused, granted}

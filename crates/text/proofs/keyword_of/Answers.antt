@@ -1,5 +1,5 @@
 -- The word that is found is the first that is spelled so; where the table ends, no word is.
-use Rattle.std.proofs.Common.{◌≡◌, sym, ap, ◌∙◌, arith}
+use Rattle.std.proofs.Common.{sym, ◌∙◌, arith}
 use Rattle.std.proofs.lemmas.Slice.Eq.{bytes_eq-Decides}
 use Rattle.text.proofs.Laws.{keyword_none}
 use Rattle.text.proofs.Steps.{keyword_here, keyword_passed, keyword_past, nth_inside}

@@ -1,4 +1,4 @@
-use Rattle.std.proofs.Common.{◌≡◌, ◌<◌, length, arith, true-eqb, false-eqb}
+use Rattle.std.proofs.Common.{◌<◌, length, arith, true-eqb, false-eqb}
 use Rattle.heads.specs.Arithmetics.{ArithmeticAnswer}
 use Rattle.report.specs.Input.{PlayAndLibrary}
 use Rattle.report.proofs.Inputs.{missing_told, unended_told, faulty_told, taken_told}

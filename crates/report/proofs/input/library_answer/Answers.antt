@@ -1,6 +1,6 @@
-use Rattle.std.proofs.Common.{Ok, Err, sym, ap, subst}
+use Rattle.std.proofs.Common.{Ok, Err, sym, subst}
 use Rattle.reader.specs.Text.{Reads}
-use Rattle.report.specs.Input.{LibraryAnswer, Only, in_input}
+use Rattle.report.specs.Input.{LibraryAnswer, Only}
 use Rattle.report.proofs.Inputs.{few_lines, only_counts, only_found}
 use Rattle.report.proofs.input.library_answer.Goals as goal
 

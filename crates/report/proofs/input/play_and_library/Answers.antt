@@ -1,4 +1,4 @@
-use Rattle.std.proofs.Common.{◌≡◌, ◌<◌, length, arith, true-eqb, false-eqb}
+use Rattle.std.proofs.Common.{◌<◌, length, arith, true-eqb, false-eqb}
 use Rattle.heads.specs.Plays.{PlayAnswer}
 use Rattle.report.specs.Input.{LibraryAnswer}
 use Rattle.report.proofs.Inputs.{missing_told, unended_told, faulty_told, taken_told}

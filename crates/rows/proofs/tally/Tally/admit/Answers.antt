@@ -1,5 +1,4 @@
-use Rattle.std.proofs.Common.{◌≡◌, ℕ, length, sym, ◌∙◌, subst, rules}
-use Rattle.rows.specs.Tallies.{PlaceBy, Tallied}
+use Rattle.std.proofs.Common.{◌≡◌, length, sym, ◌∙◌, rules}
 use Rattle.rows.proofs.Admits.{order_least, reference_least, limit_least, repeat_least, none_holds, tallied_push, leaves_told}
 use Rattle.rows.proofs.tally.Tally.admit.Goals as goal
 
