@@ -42,10 +42,10 @@ fn number_where_kept(kept: bool, number: Option<u32>) -> Option<Wanted>
 }
 
 // The type of functions from one type to another.
-fn function_of(argument: Option<u32>, res: Option<u32>) -> Option<Wanted>
-    ensures function_type { result ≡ function_of argument res }
+fn function_of(argument: Option<u32>, answer: Option<u32>) -> Option<Wanted>
+    ensures function_type { result ≡ function_of argument answer }
 {
-    match (argument, res) {
+    match (argument, answer) {
         (Some(a), Some(b)) => Some(Wanted::Form(TypeForm::Fun(a, b))),
         _ => None,
     }

@@ -1,5 +1,5 @@
 -- No name is shown twice, so no play comes before itself, and the list of full plays is without repetition.
-use Rattle.std.proofs.Common.{◌≡◌, ℕ, suc, ◌≤◌, Bool, true, false, ◌||◌, eqb, ◌⊎◌, List, [], ◌∷◌, ◌++◌, map, ℤ, sym, refl, ◌∙◌, subst, inl, inr, arith, eq-eqb}
+use Rattle.std.proofs.Common.{◌≡◌, ℕ, suc, ◌≤◌, Bool, true, false, ◌||◌, eqb, ◌⊎◌, List, [], ◌∷◌, ◌++◌, map, length, ℤ, sym, refl, ◌∙◌, subst, inl, inr, arith, eq-eqb}
 use mathlib.Core.List.Memᴰ
 use mathlib.Core.List.{Memᴰ}
 use mathlib.Core.Option.{Option, none, some}
@@ -16,7 +16,7 @@ use Rattle.rules.specs.Game as rule
 use Rattle.rules.specs.Plays.{Run, Move, call, answer, host_moves, FullPlay}
 use Rattle.rules.specs.Plays as play
 use Rattle.rules.specs.Enumeration.{Played, played, moves_of, full_plays}
-use Rattle.rules.specs.Order.{StandsBefore, WordsBefore, Ahead, BeforeFrom, Before, Ascending, WithoutRepetition}
+use Rattle.rules.specs.Order.{StandsBefore, WordsBefore, Ahead, BeforeFrom, Before, Ascending, WithoutRepetition, Counted}
 use Rattle.rules.specs.Order as order
 use Rattle.rules.specs.Laws.{FullPlaysAreInOrder}
 use Rattle.rules.specs.Ranges.{AllPlays}
@@ -148,18 +148,21 @@ module _ (G : Game) where
       pub play_listed : (moves : List Move) → Memᴰ moves (map moves_of plays) → FullPlay G moves
       play_listed moves i = let w = Memᴰ.of_map moves_of plays i in subst (FullPlay G) w.2 (full_of w.0 w.1)
 
+      -- such a list is without repetition, and as long as there are full plays
+      pub counted_plays : Counted (FullPlay G) (length plays)
+      counted_plays = record {
+        those = map moves_of plays;
+        no_repetition = no_repetition (map moves_of plays) all.in_order;
+        holds_each = listed_play;
+        holds_no_other = play_listed;
+        as_many = length-map plays moves_of;
+      }
+
 pub full_plays_are_in_order : FullPlaysAreInOrder
 full_plays_are_in_order G list law =
     let all = all_plays G list law in
-    let once = no_repetition G list law (map moves_of (full_plays G list)) all.in_order in
     record {
       ascending = all.in_order;
-      no_repetition = once;
-      counted = record {
-        those = map moves_of (full_plays G list);
-        no_repetition = once;
-        holds_each = listed_play G list law (full_plays G list) all;
-        holds_no_other = play_listed G list law (full_plays G list) all;
-        as_many = length-map (full_plays G list) moves_of;
-      };
+      no_repetition = no_repetition G list law (map moves_of (full_plays G list)) all.in_order;
+      counted = counted_plays G list law (full_plays G list) all;
     }

@@ -41,10 +41,10 @@ module _ (rows : List Row) (fine : WellTyped rows) where
 
   -- each row is typed after the rows before it
   one_more : (i : ℕ) (row : Row) → slice_get rows i ≡ Some row → TypedUpTo i → TypedUpTo (i + 1)
-  one_more i (TypeRow n f) e k = no_more i (TypeRow n f) e (λ t form d. let z : ◌≡◌ {A = ℕ} 0 1 = cc in omega arith) k
-  one_more i (VariableRow n t) e k = no_more i (VariableRow n t) e (λ u form d. let z : ◌≡◌ {A = ℕ} 0 1 = cc in omega arith) k
-  one_more i (MethodRow n f) e k = no_more i (MethodRow n f) e (λ t form d. let z : ◌≡◌ {A = ℕ} 0 1 = cc in omega arith) k
-  one_more i (GlobalRow n t u) e k = no_more i (GlobalRow n t u) e (λ x form d. let z : ◌≡◌ {A = ℕ} 0 1 = cc in omega arith) k
+  one_more i (TypeRow n f) e k = no_more i (TypeRow n f) e (λ t form d. cc) k
+  one_more i (VariableRow n t) e k = no_more i (VariableRow n t) e (λ u form d. cc) k
+  one_more i (MethodRow n f) e k = no_more i (MethodRow n f) e (λ t form d. cc) k
+  one_more i (GlobalRow n t u) e k = no_more i (GlobalRow n t u) e (λ x form d. cc) k
   one_more i (TermRow t form) e k = step (type_of rows k.0 form) refl
     where
       step : (r : Result ℕ TypingFault) → type_of rows k.0 form ≡ r → TypedUpTo (i + 1)

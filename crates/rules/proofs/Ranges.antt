@@ -3,7 +3,6 @@ use Rattle.std.proofs.Common.{◌≡◌, ℕ, zero, suc, ◌+◌, ◌-◌, ◌<�
 use mathlib.Core.List.Memᴰ
 use mathlib.Core.List.{Memᴰ}
 use mathlib.Core.Option.{Option, none, some}
-use lib.ListN.{length-map}
 use Rattle.std.proofs.str.Laws.{order}
 use Rattle.arithmetic.specs.Meaning.{WordList, Listed}
 use Rattle.rules.specs.Memory.{at}
@@ -12,7 +11,7 @@ use Rattle.rules.specs.Plays.{Move}
 use Rattle.rules.specs.Enumeration.{Played, moves_of}
 use Rattle.rules.specs.Order.{Before, Ascending, WithoutRepetition, Counted}
 use Rattle.rules.specs.Ranges.{After, FullInRange, AllPlays, FullPlaysAreCounted}
-use Rattle.rules.proofs.Distinct.{no_repetition, listed_play, play_listed}
+use Rattle.rules.proofs.Distinct.{no_repetition, listed_play, play_listed, counted_plays}
 use Rattle.rules.proofs.OneWay.{before_one_way}
 
 -- what stands at places of a list, and of a part of it
@@ -25,19 +24,19 @@ module _ {X : Type 0} where
 
   -- what stands at a place stands in the list
   there : (x : X) (xs : List X) (k : ℕ) → at xs k ≡ some x → Memᴰ x xs
-  there x [] k e = let z : ◌≡◌ {A = ℕ} 0 1 = cc in absurd (omega arith)
+  there x [] k e = cc
   there x (y ∷ xs) zero e = Memᴰ.head (cc)
   there x (y ∷ xs) (suc k) e = Memᴰ.tail (there x xs k e)
 
   -- where something stands, the list has a place
   inside : (x : X) (xs : List X) (k : ℕ) → at xs k ≡ some x → k < length xs
-  inside x [] k e = let z : ◌≡◌ {A = ℕ} 0 1 = cc in absurd (omega arith)
+  inside x [] k e = cc
   inside x (y ∷ xs) zero e = omega arith
   inside x (y ∷ xs) (suc k) e = let h = inside x xs k e in omega arith
 
   -- in an ascending list the element at an earlier place comes before the one at a later place
   in_order_at : (R : X → X → Type 0) (xs : List X) → Ascending R xs → (i k : ℕ) (x y : X) → i < k → at xs i ≡ some x → at xs k ≡ some y → R x y
-  in_order_at R [] up i k x y lt d e = let z : ◌≡◌ {A = ℕ} 0 1 = cc in absurd (omega arith)
+  in_order_at R [] up i k x y lt d e = cc
   in_order_at R (w ∷ xs) up zero zero x y lt d e = absurd (omega arith)
   in_order_at R (w ∷ xs) up zero (suc k) x y lt d e = let s : w ≡ x = cc in subst (λ (z : X). R z y) s (up.0 y (there y xs k e))
   in_order_at R (w ∷ xs) up (suc i) zero x y lt d e = absurd (omega arith)
@@ -45,15 +44,15 @@ module _ {X : Type 0} where
 
   -- what stands at a place of the first n elements stands there in the list
   at_take : (xs : List X) (n k : ℕ) (x : X) → at (take n xs) k ≡ some x → (k < n) × (at xs k ≡ some x)
-  at_take [] zero k x e = let z : ◌≡◌ {A = ℕ} 0 1 = cc in absurd (omega arith)
-  at_take [] (suc n) k x e = let z : ◌≡◌ {A = ℕ} 0 1 = cc in absurd (omega arith)
-  at_take (y ∷ xs) zero k x e = let z : ◌≡◌ {A = ℕ} 0 1 = cc in absurd (omega arith)
+  at_take [] zero k x e = cc
+  at_take [] (suc n) k x e = cc
+  at_take (y ∷ xs) zero k x e = cc
   at_take (y ∷ xs) (suc n) zero x e = (omega arith, e)
   at_take (y ∷ xs) (suc n) (suc k) x e = let h = at_take xs n k x e in (omega (arith, h.0), h.1)
 
   -- what stands at one of the first n places stands there among the first n elements
   take_at : (xs : List X) (n k : ℕ) (x : X) → k < n → at xs k ≡ some x → at (take n xs) k ≡ some x
-  take_at [] n k x lt e = let z : ◌≡◌ {A = ℕ} 0 1 = cc in absurd (omega arith)
+  take_at [] n k x lt e = cc
   take_at (y ∷ xs) zero k x lt e = absurd (omega arith)
   take_at (y ∷ xs) (suc n) zero x lt e = e
   take_at (y ∷ xs) (suc n) (suc k) x lt e = take_at xs n k x (omega arith) e
@@ -176,13 +175,7 @@ module _ (G : Game) (list : WordList) (law : Listed G.meaning list) (plays : Lis
 pub full_plays_are_counted : FullPlaysAreCounted
 full_plays_are_counted G list law plays all = record {
   no_repetition = no_repetition G list law (map moves_of plays) all.in_order;
-  counted = record {
-    those = map moves_of plays;
-    no_repetition = no_repetition G list law (map moves_of plays) all.in_order;
-    holds_each = listed_play G list law plays all;
-    holds_no_other = play_listed G list law plays all;
-    as_many = length-map plays moves_of;
-  };
+  counted = counted_plays G list law plays all;
   counted_up_to = up_to_counted G list law plays all;
   counted_between = between_counted G list law plays all;
 }

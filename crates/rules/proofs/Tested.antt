@@ -1,7 +1,8 @@
 -- Texts that pass tests which can be computed are read, and their rows mount.
-use Rattle.std.proofs.Common.{◌≡◌, ℕ, zero, suc, ◌+◌, ◌^◌, ◌<◌, ◌≤◌, Bool, true, false, ◌&&◌, eqb, ltb, leb, ◌⊎◌, List, [], ◌∷◌, ◌++◌, length, take, replicate, Some, None, Ok, Err, Option, Result, sym, refl, ap, ◌∙◌, subst, inl, inr, append_assoc, append-nil, arith, length-set, ltb-true, eqb-true, leb-true}
+use Rattle.std.proofs.Common.{◌≡◌, ℕ, zero, suc, ◌+◌, ◌^◌, ◌<◌, ◌≤◌, Bool, true, ◌&&◌, eqb, ltb, leb, ◌⊎◌, List, [], ◌∷◌, ◌++◌, length, take, replicate, Some, None, Ok, Err, Option, Result, sym, refl, ap, ◌∙◌, subst, inl, inr, append_assoc, append-nil, arith, length-set, ltb-true, eqb-true, leb-true}
 use lib.Signed.{mag}
 use Rattle.std.specs.List.{slice_get, AllByRecursion}
+use Rattle.std.specs.Option.{is_none}
 use Rattle.std.proofs.lemmas.Option.{slice_get-get_or, slice_get_past}
 use Rattle.std.proofs.lemmas.Bool.{and_parts}
 use Rattle.std.proofs.str.Laws.{order}
@@ -43,11 +44,6 @@ in_range_tested (literal bs ∷ ss) e = (tt, in_range_tested ss e)
 in_range_tested (number n ∷ ss) e = let p = and_parts (leb n 65535) (in_range_test ss) e in (leb-true n 65535 p.0, in_range_tested ss p.1)
 in_range_tested (word z ∷ ss) e = let p = and_parts (ltb (mag z) (2 ^ 31)) (in_range_test ss) e in (record { sfits = ltb-true (mag z) (2 ^ 31) p.0 }, in_range_tested ss p.1)
 
--- whether there is no number
-abbrev is_none : Option ℕ → Bool
-is_none None = true
-is_none (Some n) = false
-
 -- the test that a type is not listed before
 abbrev new_test : List Row → Row → Bool
 new_test before (TypeRow n f) = is_none (first_of_form f before)
@@ -72,7 +68,7 @@ no_such before (TypeRow n f) e h = go (first_of_form f before) refl e
   where
     go : (o : Option ℕ) → first_of_form f before ≡ o → is_none o ≡ true → ⊥
     go None d g = not_found f before h.0 d (ap type_form_of (slice_get-get_or before h.0 (TypeRow h.1 f) h.2 ∙ ap Some h.3))
-    go (Some k) d g = let z : ◌≡◌ {A = ℕ} 0 1 = cc in omega arith
+    go (Some k) d g = cc
 no_such before (VariableRow n t) e h = h
 no_such before (MethodRow n f) e h = h
 no_such before (GlobalRow n t u) e h = h
@@ -173,7 +169,7 @@ words_test (s ∷ sets) = ltb s (2 ^ 64) && words_test sets
 
 -- where the test holds, each set is a word
 words_tested : (sets : List ℕ) → words_test sets ≡ true → Words sets
-words_tested [] e t s h = let z : ◌≡◌ {A = ℕ} 0 1 = cc in absurd (omega arith)
+words_tested [] e t s h = cc
 words_tested (x ∷ sets) e zero s h = let same : x ≡ s = cc in subst (λ (n : ℕ). n < 2 ^ 64) same (ltb-true x (2 ^ 64) (and_parts (ltb x (2 ^ 64)) (words_test sets) e).0)
 words_tested (x ∷ sets) e (suc t) s h = words_tested sets (and_parts (ltb x (2 ^ 64)) (words_test sets) e).1 t s h
 
@@ -207,7 +203,7 @@ module _ (rows : List Row) (known sets : List ℕ) where
 
   -- where the test holds, each row stands
   stands_tested : (more : List Row) → stands_test more ≡ true → (j : ℕ) (row : Row) → slice_get more j ≡ Some row → stands rows known sets row ≡ true
-  stands_tested [] e j row h = let z : ◌≡◌ {A = ℕ} 0 1 = cc in absurd (omega arith)
+  stands_tested [] e j row h = cc
   stands_tested (r ∷ more) e zero row h = let same : r ≡ row = cc in subst (λ (x : Row). stands rows known sets x ≡ true) same (and_parts (stands rows known sets r) (stands_test more) e).0
   stands_tested (r ∷ more) e (suc j) row h = stands_tested more (and_parts (stands rows known sets r) (stands_test more) e).1 j row h
 
@@ -245,8 +241,8 @@ none_good = record { faultless = λ i row lt. absurd (omega arith); tallied = re
     none_there Terms = refl
 
 -- how many rows are counted
-abbrev sum : Counts → ℕ
-sum c = c.types + c.variables + c.methods + c.globals + c.terms
+abbrev all_counted : Counts → ℕ
+all_counted c = c.types + c.variables + c.methods + c.globals + c.terms
 
 -- the forms of the terms among rows
 abbrev forms : List Row → List TermForm
@@ -262,7 +258,7 @@ abbrev pub text_test : List ℕ → List Row → Bool
 text_test text rows =
     leb (length text) most_bytes
     && (rows_test [] none_counted (replicate 64 0) rows
-    && (eqb (sum (counts_after none_counted rows)) (length rows)
+    && (eqb (all_counted (counts_after none_counted rows)) (length rows)
     && mount_test rows (types_found rows [] (forms rows)) (sets_found [] (forms rows))))
 
 -- a text that is printed from rows is read as these, and they mount, where the test holds

@@ -1,5 +1,6 @@
 -- What trying the full plays in order comes to is how the game comes out.
 use Rattle.std.proofs.Common.{◌≡◌, ℕ, zero, suc, ◌+◌, ◌<◌, Bool, true, false, ◌||◌, ◌⊎◌, List, [], ◌∷◌, ◌++◌, map, length, take, MatchBool, sym, refl, ap, ◌∙◌, subst, inl, inr, arith}
+use Rattle.std.proofs.Math.Bool.{or-false}
 use mathlib.Core.List.Memᴰ
 use mathlib.Core.List.{Memᴰ}
 use mathlib.Core.Option.{none, some}
@@ -41,11 +42,6 @@ ending_of (played trace ending steps) = ending
 abbrev some_so : (Ending → Bool) → List Played → Bool
 some_so so [] = false
 some_so so (x ∷ plays) = so (ending_of x) || some_so so plays
-
--- what is so or is never so is so
-or_false : (b : Bool) → (b || false) ≡ b
-or_false true = refl
-or_false false = refl
 
 -- none of the plays has failed
 abbrev NoneFailed : List Played → Type 0
@@ -101,9 +97,9 @@ marks_depth false b = refl
 
 -- no other ending is a failed one
 apart : (e : Ending) → (e ≡ cut_by_depth) ⊎ ((e ≡ cut_by_steps) ⊎ (e ≡ turn)) → e ≡ failed → ⊥
-apart e (inl h) k = let z : ◌≡◌ {A = ℕ} 0 1 = cc in omega arith
-apart e (inr (inl h)) k = let z : ◌≡◌ {A = ℕ} 0 1 = cc in omega arith
-apart e (inr (inr h)) k = let z : ◌≡◌ {A = ℕ} 0 1 = cc in omega arith
+apart e (inl h) k = cc
+apart e (inr (inl h)) k = cc
+apart e (inr (inr h)) k = cc
 
 -- where trying comes to safe, the plays tell so
 found_safe : (plays : List Played) (n : ℕ) (d s : Bool) (m : ℕ) (e t : Bool) → tried plays n d s ≡ safe m e t → FoundSafe plays n d s m e t
@@ -111,8 +107,8 @@ found_safe [] n d s m e t h =
     let x : n ≡ m = cc in
     let y : d ≡ e = cc in
     let z : s ≡ t = cc in
-    record { none_failed = λ p i. absurd (Memᴰ.not-nil i); as_many = omega arith; depth_is = sym y ∙ sym (or_false d); steps_is = sym z ∙ sym (or_false s) }
-found_safe (played trace failed steps ∷ plays) n d s m e t h = let z : ◌≡◌ {A = ℕ} 0 1 = cc in absurd (omega arith)
+    record { none_failed = λ p i. absurd (Memᴰ.not-nil i); as_many = omega arith; depth_is = sym y ∙ sym (or-false d); steps_is = sym z ∙ sym (or-false s) }
+found_safe (played trace failed steps ∷ plays) n d s m e t h = cc
 found_safe (played trace cut_by_depth steps ∷ plays) n d s m e t h =
     safe_more (played trace cut_by_depth steps) plays n d true s s m e t (apart cut_by_depth (inl refl)) (marks_depth d) (λ b. refl) (found_safe plays (suc n) true s m e t h)
 found_safe (played trace cut_by_steps steps ∷ plays) n d s m e t h =
@@ -122,7 +118,7 @@ found_safe (played trace turn steps ∷ plays) n d s m e t h =
 
 -- where trying comes to lost, the plays tell so
 found_lost : (plays : List Played) (n : ℕ) (d s : Bool) (trace : List Pass) (steps m : ℕ) (e t : Bool) → tried plays n d s ≡ lost trace steps m e t → FoundLost plays n d s trace steps m e t
-found_lost [] n d s trace steps m e t h = let z : ◌≡◌ {A = ℕ} 0 1 = cc in absurd (omega arith)
+found_lost [] n d s trace steps m e t h = cc
 found_lost (played trace' failed steps' ∷ plays) n d s trace steps m e t h =
     let a : trace' ≡ trace = cc in
     let b : steps' ≡ steps = cc in
@@ -135,8 +131,8 @@ found_lost (played trace' failed steps' ∷ plays) n d s trace steps m e t h =
       parts = ap (λ (w : List Pass). played w failed steps' ∷ plays) a ∙ ap (λ (k : ℕ). played trace failed k ∷ plays) b;
       none_failed = λ p i. absurd (Memᴰ.not-nil i);
       as_many = omega arith;
-      depth_is = sym y ∙ sym (or_false d);
-      steps_is = sym z ∙ sym (or_false s);
+      depth_is = sym y ∙ sym (or-false d);
+      steps_is = sym z ∙ sym (or-false s);
     }
 found_lost (played trace' cut_by_depth steps' ∷ plays) n d s trace steps m e t h =
     lost_more (played trace' cut_by_depth steps') plays n d true s s trace steps m e t (apart cut_by_depth (inl refl)) (marks_depth d) (λ b. refl) (found_lost plays (suc n) true s trace steps m e t h)
@@ -147,7 +143,7 @@ found_lost (played trace' turn steps' ∷ plays) n d s trace steps m e t h =
 
 -- where a list has some play with such an ending, this is one
 some_found : (so : Ending → Bool) (plays : List Played) → some_so so plays ≡ true → (x : Played) × Memᴰ x plays × (so (ending_of x) ≡ true)
-some_found so [] e = let z : ◌≡◌ {A = ℕ} 0 1 = cc in absurd (omega arith)
+some_found so [] e = cc
 some_found so (x ∷ plays) e = go (so (ending_of x)) refl e (some_found so plays)
   where
     go : (b : Bool) → so (ending_of x) ≡ b → (b || some_so so plays) ≡ true → (some_so so plays ≡ true → (y : Played) × Memᴰ y plays × (so (ending_of y) ≡ true)) → (y : Played) × Memᴰ y (x ∷ plays) × (so (ending_of y) ≡ true)
@@ -171,17 +167,17 @@ some_append so (x ∷ xs) trace e steps h = ap (λ (b : Bool). so (ending_of x) 
 
 -- only one ending is a cut by depth
 is_depth : (e : Ending) → by_depth e ≡ true → e ≡ cut_by_depth
-is_depth failed h = let z : ◌≡◌ {A = ℕ} 0 1 = cc in absurd (omega arith)
+is_depth failed h = cc
 is_depth cut_by_depth h = refl
-is_depth cut_by_steps h = let z : ◌≡◌ {A = ℕ} 0 1 = cc in absurd (omega arith)
-is_depth turn h = let z : ◌≡◌ {A = ℕ} 0 1 = cc in absurd (omega arith)
+is_depth cut_by_steps h = cc
+is_depth turn h = cc
 
 -- only one ending is a cut by steps
 is_steps : (e : Ending) → by_steps e ≡ true → e ≡ cut_by_steps
-is_steps failed h = let z : ◌≡◌ {A = ℕ} 0 1 = cc in absurd (omega arith)
-is_steps cut_by_depth h = let z : ◌≡◌ {A = ℕ} 0 1 = cc in absurd (omega arith)
+is_steps failed h = cc
+is_steps cut_by_depth h = cc
 is_steps cut_by_steps h = refl
-is_steps turn h = let z : ◌≡◌ {A = ℕ} 0 1 = cc in absurd (omega arith)
+is_steps turn h = cc
 
 module _ (G : Game) (list : WordList) (law : Listed G.meaning list) (plays : List Played) (all : AllPlays G list plays) where
   -- a listed play, by its moves
@@ -204,7 +200,7 @@ module _ (G : Game) (list : WordList) (law : Listed G.meaning list) (plays : Lis
         go : (x : Played) × Memᴰ x part × (so (ending_of x) ≡ true) → SomeCut G Tried ending
         go w = here w.0 w.1 w.2
           where
-            -- the losing play is among the plays
+            -- such a play is some play that was tried and ends so
             here : (x : Played) → Memᴰ x part → so (ending_of x) ≡ true → SomeCut G Tried ending
             here (played trace f steps) i h = (host_moves trace, out (played trace f steps) i, play_at trace f steps (sub (played trace f steps) i), only f h)
     marked so ending only is false e = λ c.
@@ -212,8 +208,7 @@ module _ (G : Game) (list : WordList) (law : Listed G.meaning list) (plays : Lis
         let ends = same_ending c.0 c.2 w.0 (sub w.0 w.1) w.2 in
         let found = found_some so part w.0 w.1 (ap so (sym ends ∙ c.3) ∙ is) in
         let z : true ≡ false = sym found ∙ e in
-        let y : ◌≡◌ {A = ℕ} 0 1 = cc in
-        omega arith
+        cc
 
     -- the count and both marks of the plays that were tried
     tried_with : (n : ℕ) (d s : Bool) → Counted Tried n → d ≡ some_so by_depth part → s ≡ some_so by_steps part → TriedWith G Tried n d s
@@ -227,7 +222,7 @@ module _ (G : Game) (list : WordList) (law : Listed G.meaning list) (plays : Lis
   losing_listed : (moves : List Move) (x : LosingPlay G moves) → Memᴰ (played x.play.trace failed x.play.steps) plays
   losing_listed moves x =
       all.each_is_listed x.play.trace failed x.play.steps
-      (record { play = subst (λ (e : Ending). PlayFrom G (start G) 0 x.play.trace e x.play.steps) x.lost x.play.play; no_more = λ d. let z : ◌≡◌ {A = ℕ} 0 1 = cc in absurd (omega arith) })
+      (record { play = subst (λ (e : Ending). PlayFrom G (start G) 0 x.play.trace e x.play.steps) x.lost x.play.play; no_more = λ d. cc })
 
   -- where trying comes to safe, the game is safe
   safe_by : (n : ℕ) (d s : Bool) → tried plays 0 false false ≡ safe n d s → Safe G n d s
@@ -241,6 +236,7 @@ module _ (G : Game) (list : WordList) (law : Listed G.meaning list) (plays : Lis
       }
 
   module _ (trace : List Pass) (steps n : ℕ) (d s : Bool) (h : FoundLost plays 0 false false trace steps n d s) where
+    -- the losing play is among the plays
     here : Memᴰ (played trace failed steps) plays
     here = subst (λ (z : List Played). Memᴰ (played trace failed steps) z) (sym h.parts) (Memᴰ.append_right h.before (Memᴰ.head refl))
 

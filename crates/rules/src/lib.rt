@@ -79,39 +79,29 @@ pub fn listings_tell_plays() -> u8
 }
 
 /// A game whose rows mount, whose numbers are lawful and whose arithmetic keeps its laws can be played.
-pub fn mounting_is_playable() -> u8
+pub fn mounting_is_playable()
     ensures each_mounted_game_is_playable { MountingIsPlayable }
-{
-    0
-}
+{}
 
 /// Wherever a run of a game that can be played leads, the play comes to one of its endings without a further move of the host's.
-pub fn plays_come_to_an_end() -> u8
+pub fn plays_come_to_an_end()
     ensures each_run_comes_to_an_end { PlayableComesToAnEnd }
-{
-    0
-}
+{}
 
 /// The order of plays goes one way, and places in a list of all full plays count them, also those in a range.
-pub fn full_plays_are_counted() -> u8
+pub fn full_plays_are_counted()
     ensures one_way { OrderGoesOneWay }
     ensures all_in_order { FullPlaysHaveAList }
     ensures counted_by_place { FullPlaysAreCounted }
-{
-    0
-}
+{}
 
 /// Each game comes out safe, or lost at its first losing play, and the computed verdict tells which.
-pub fn games_come_out() -> u8
+pub fn games_come_out()
     ensures safe_or_lost { GamesComeOut }
     ensures verdict_is_right { VerdictIsRight }
-{
-    0
-}
+{}
 
 /// The text of each worked library is read as its rows, and these mount.
-pub fn worked_libraries_mount() -> u8
+pub fn worked_libraries_mount()
     ensures read_and_mounted { WorkedLibrariesMount }
-{
-    0
-}
+{}
