@@ -188,6 +188,11 @@ keyword_found spelled (x ∷ xs) bs k e =
 pub keyword_none : {K : Type 0} (spelled : K → List ℕ) (table : List K) (bs : List ℕ) (k : K) → keyword_of spelled table bs ≡ None → keyword_of spelled table (spelled k) ≡ Some k → spelled k ≡ bs → ⊥
 keyword_none spelled table bs k e found same = none_some k (sym e ∙ ap (keyword_of spelled table) (sym same) ∙ found)
 
+-- what is found is spelled by the bytes, and where none is found no keyword is
+pub keyword_read : {K : Type 0} (spelled : K → List ℕ) (table : List K) (bs : List ℕ) (r : Option K) → r ≡ keyword_of spelled table bs → ((k : K) → keyword_of spelled table (spelled k) ≡ Some k) → MatchOption r ((k : K) → spelled k ≡ bs → ⊥) (λ k. spelled k ≡ bs)
+keyword_read spelled table bs None e found = λ k same. keyword_none spelled table bs k (sym e) (found k) same
+keyword_read spelled table bs (Some k) e found = keyword_found spelled table bs k (sym e)
+
 -- a field in range has no comma and no line feed, if no given word has one
 pub written_free : (s : Slot) → InRange s → ((bs : List ℕ) → s ≡ Slots.literal bs → Free bs) → Free (written s)
 written_free (Slots.literal bs) range free = free bs refl

@@ -1,17 +1,20 @@
 -- What the loops and the branches of the code come to, on lists alone.
-use Rattle.std.proofs.Common.{◌≡◌, ℕ, zero, suc, ◌+◌, ◌-◌, ◌*◌, ◌^◌, ◌<◌, ◌≤◌, Bool, true, false, cond, eqb, List, [], ◌∷◌, ◌++◌, length, get_or, take, drop, ℤ, pos, negsuc, ◌-ℤ◌, Some, None, decimal, Option, sym, refl, ap, ◌∙◌, subst, ⊎_elim, add-one, arith, w32, w64, SFits, to_z, of_z, MatchOption}
+use Rattle.std.proofs.Common.{◌≡◌, ℕ, zero, suc, ◌+◌, ◌-◌, ◌*◌, ◌^◌, ◌<◌, ◌≤◌, Bool, true, false, cond, eqb, List, [], ◌∷◌, ◌++◌, length, get_or, take, drop, ℤ, pos, negsuc, ◌-ℤ◌, Some, None, decimal, Option, sym, refl, ap, ◌∙◌, subst, ⊎_elim, arith, w32, w64, SFits, to_z, of_z, MatchOption}
 use Rattle.std.specs.Str.Parse.{AllDigits, digits_value}
 use Rattle.std.specs.Int.{IsInRange}
 use Rattle.std.specs.Char.{digit_value}
 use Rattle.std.specs.Fmt.{signed_decimal}
-use Rattle.std.specs.Str.{bytes_eq}
 use Rattle.std.proofs.lemmas.Fmt.{decimal_nonempty, decimal_digit, decimal-digits_value, digits_decimal, first_decimal, length-decimal-le, decimal_injective}
 use Rattle.std.proofs.lemmas.Int.Digits.{digits_more, digits_value_more}
-use Rattle.std.proofs.lemmas.List.{drop_all, drop_more, length-take, take_all, take-append-drop, take_rest}
+use Rattle.std.proofs.lemmas.List.{drop_more, length-take, take_all, take-append-drop, take_rest}
 use Rattle.std.proofs.lemmas.Str.Parse.{IsNumeralModel, digit_at, numerals_by_value, tells_digits, digits_value_short}
 use Rattle.std.proofs.lemmas.Int.{ints, to_z_pos}
-use Rattle.std.proofs.lemmas.Bool.{cases_eq, cond-false, cond-true, eq-eqb, ne_eqb}
-use Rattle.text.specs.Reading.{in_front, cut, keyword_of, nth, number_of, word_of}
+use Rattle.std.proofs.lemmas.Bool.{cases_eq, eqb-false, eqb-true}
+use Rattle.std.proofs.lemmas.Iterator.Adapters.{position_from-zero}
+use Rattle.std.proofs.lemmas.List.Quantifiers.{position-Some}
+use Rattle.std.proofs.lemmas.List.Recursion.{is_count_by}
+use Rattle.std.specs.List.{count_by, position, position_from}
+use Rattle.text.specs.Reading.{in_front, cut, number_of, word_of}
 use Rattle.text.specs.Slots.{Lacks}
 use Rattle.text.proofs.Laws.{cut_some, none_some, number_is, word_is}
 
@@ -22,57 +25,45 @@ parts_at bs i b h e =
     rw (zero_less, take_rest bs (i + 1))
     (sym (take-append-drop i bs) ∙ ap (λ t. take i bs ++ t) (drop_more bs i 0 h ∙ ap (λ x. x ∷ drop (i + 1) bs) e))
 
-pub lacks_before : (b i : ℕ) (bs : List ℕ) → Lacks b (take i bs) → Lacks b (take (i - 0) bs)
-lacks_before b i bs h = let zero_less : i - 0 ≡ i = omega arith in rw zero_less h
+-- the first place of a byte parts the bytes, and the byte stands nowhere before it
+lacks_before : (b : ℕ) (bs : List ℕ) (i : ℕ) → ((k : ℕ) → k < i → eqb (get_or bs k 0) b ≡ false) → Lacks b (take i bs)
+lacks_before b [] zero passed = tt
+lacks_before b [] (suc i) passed = tt
+lacks_before b (x ∷ bs) zero passed = tt
+lacks_before b (x ∷ bs) (suc i) passed =
+    (eqb-false x b (passed 0 (omega arith)), lacks_before b bs i (λ k l. passed (suc k) (omega arith)))
 
-pub lacks_all : (b i : ℕ) (bs : List ℕ) → length bs ≤ i → Lacks b (take i bs) → Lacks b bs
-lacks_all b i bs h k = rw (take_all i bs h) at k
+pub parted_at_first : (bs : List ℕ) (b i : ℕ) → position (λ x. eqb x b) bs ≡ Some i → (bs ≡ take (i - 0) bs ++ (b ∷ take (length bs - (i + 1)) (drop (i + 1) bs))) × Lacks b (take (i - 0) bs)
+parted_at_first bs b i first =
+    let at = position-Some (λ x. eqb x b) bs i 0 first in
+    let zero_less : i - 0 ≡ i = omega arith in
+    (parts_at bs i b at.0 (eqb-true _ _ at.1), rw zero_less (lacks_before b bs i at.2))
 
-length_in_front : (t : Bool) (b : ℕ) (fs : List (List ℕ)) → 0 < length fs → length (in_front t b fs) ≡ cond t (length fs + 1) (length fs)
-length_in_front true b fs some = omega arith
-length_in_front false b [] some = absurd (omega arith)
-length_in_front false b (f ∷ fs) some = refl
+-- bytes in which a byte has no place lack it
+pub lacks_unplaced : (bs : List ℕ) (b : ℕ) → position (λ x. eqb x b) bs ≡ None → Lacks b bs
+lacks_unplaced bs b none = passed 0 bs (sym (position_from-zero (λ x. eqb x b) bs) ∙ none)
+  where
+    here : (x i : ℕ) (xs : List ℕ) (t : Bool) → eqb x b ≡ t → cond t (Some i) (position_from (λ y. eqb y b) (i + 1) xs) ≡ None → (x ≡ b → ⊥) × (position_from (λ y. eqb y b) (i + 1) xs ≡ None)
+    here x i xs true is e = absurd (none_some i (sym e))
+    here x i xs false is e = (eqb-false x b is, e)
 
-length_cut : (b : ℕ) (bs : List ℕ) → length (cut (b ∷ bs)) ≡ cond (eqb b 44) (length (cut bs) + 1) (length (cut bs))
+    passed : (i : ℕ) (xs : List ℕ) → position_from (λ y. eqb y b) i xs ≡ None → Lacks b xs
+    passed i [] e = tt
+    passed i (x ∷ xs) e = let h = here x i xs (eqb x b) refl e in (h.0, passed (i + 1) xs h.1)
+
+-- one field more than there are commas
+further_in_front : (t : Bool) (b : ℕ) (fs : List (List ℕ)) → 0 < length fs → length (in_front t b fs) - 1 ≡ cond t (1 + (length fs - 1)) (length fs - 1)
+further_in_front true b fs some = omega arith
+further_in_front false b [] some = absurd (omega arith)
+further_in_front false b (f ∷ fs) some = refl
+
+further_fields : (bs : List ℕ) → length (cut bs) - 1 ≡ count_by (λ b. eqb b 44) bs
 unfolding cut
-length_cut b bs = length_in_front (eqb b 44) b (cut bs) (cut_some bs)
+further_fields bs =
+    is_count_by (λ xs. length (cut xs) - 1) (λ b. eqb b 44) refl (λ x xs. further_in_front (eqb x 44) x (cut xs) (cut_some xs)) bs
 
--- one field more at a comma, and as many at any other byte
-pub fields_at_comma : (bs : List ℕ) (i : ℕ) → i < length bs → get_or bs i 0 ≡ 44 → length (cut (drop i bs)) ≡ length (cut (drop (i + 1) bs)) + 1
-fields_at_comma bs i h e =
-    ap (λ t. length (cut t)) (drop_more bs i 0 h) ∙ length_cut (get_or bs i 0) (drop (i + 1) bs)
-    ∙ cond-true _ _ _ (eq-eqb (get_or bs i 0) 44 e)
-
-pub fields_at_other : (bs : List ℕ) (i : ℕ) → i < length bs → (get_or bs i 0 ≡ 44 → ⊥) → length (cut (drop i bs)) ≡ length (cut (drop (i + 1) bs))
-fields_at_other bs i h e =
-    ap (λ t. length (cut t)) (drop_more bs i 0 h) ∙ length_cut (get_or bs i 0) (drop (i + 1) bs)
-    ∙ cond-false _ _ _ (ne_eqb (get_or bs i 0) 44 e)
-
-pub fields_at_end : (bs : List ℕ) (i : ℕ) → length bs ≤ i → length (cut (drop i bs)) ≡ 1
-unfolding cut
-fields_at_end bs i h = ap (λ t. length (cut t)) (drop_all i bs h)
-
--- the words from a place on are the word there and the words from the next place on
-nth_drop : {K : Type 0} (table : List K) (i : ℕ) (k : K) → nth table i ≡ Some k → drop i table ≡ k ∷ drop (suc i) table
-nth_drop [] i k e = absurd (none_some k e)
-nth_drop (x ∷ xs) zero k e = ap (λ y. y ∷ xs) (let same : x ≡ k = cc in same)
-nth_drop (x ∷ xs) (suc i) k e = nth_drop xs i k e
-
-pub nth_inside : {K : Type 0} (table : List K) (i : ℕ) → i < length table → nth table i ≡ None → ⊥
-nth_inside [] i h e = absurd (omega arith)
-nth_inside (x ∷ xs) zero h e = none_some x (sym e)
-nth_inside (x ∷ xs) (suc i) h e = nth_inside xs i (omega arith) e
-
--- a word of the table that is spelled by the bytes is found, and any other is passed
-pub keyword_here : {K : Type 0} (spelled : K → List ℕ) (table : List K) (bs : List ℕ) (i : ℕ) (k : K) → nth table i ≡ Some k → bytes_eq (spelled k) bs ≡ true → keyword_of spelled (drop i table) bs ≡ Some k
-keyword_here spelled table bs i k is same = ap (λ t. keyword_of spelled t bs) (nth_drop table i k is) ∙ cond-true _ _ _ same
-
-pub keyword_passed : {K : Type 0} (spelled : K → List ℕ) (table : List K) (bs : List ℕ) (i : ℕ) (k : K) → nth table i ≡ Some k → bytes_eq (spelled k) bs ≡ false → keyword_of spelled (drop i table) bs ≡ keyword_of spelled (drop (i + 1) table) bs
-keyword_passed spelled table bs i k is other =
-    ap (λ t. keyword_of spelled t bs) (nth_drop table i k is ∙ ap (λ j. k ∷ drop j table) (sym (add-one i))) ∙ cond-false _ _ _ other
-
-pub keyword_past : {K : Type 0} (spelled : K → List ℕ) (table : List K) (bs : List ℕ) (i : ℕ) → length table ≤ i → keyword_of spelled (drop i table) bs ≡ None
-keyword_past spelled table bs i h = ap (λ t. keyword_of spelled t bs) (drop_all i table h)
+pub length_cut : (bs : List ℕ) → length (cut bs) ≡ count_by (λ b. eqb b 44) bs + 1
+length_cut bs = omega (arith, cut_some bs, further_fields bs)
 
 -- the words of the library for digits and what they write
 numerals : IsNumeralModel (AllDigits 10) (digits_value 10)
@@ -169,46 +160,28 @@ plain_none bs plain h = none_plain
     none_plain (pos n) fits e = h n (omega (arith, fits.sfits)) e
     none_plain (negsuc n) fits e = plain (ap (λ t. get_or t 0 0) (sym e))
 
--- bytes that begin with a minus, and those behind it
-abbrev pub behind : List ℕ → List ℕ
-behind bs = take (length bs - 1) (drop 1 bs)
-
-pub first_some : (bs : List ℕ) → get_or bs 0 0 ≡ 45 → 1 ≤ length bs
-first_some [] e = absurd (omega arith)
-first_some (b ∷ bs) e = omega arith
-
-minus_and_rest : (bs : List ℕ) → get_or bs 0 0 ≡ 45 → bs ≡ 45 ∷ behind bs
-minus_and_rest [] e = absurd (omega arith)
-minus_and_rest (b ∷ bs) e =
-    let rest : take (length (b ∷ bs) - 1) bs ≡ bs = take_all (length (b ∷ bs) - 1) bs (omega arith) in
-    rw (rest, e) refl
-
+-- digits behind a minus
 -- the bits of the negation of a number of at most 2^31
 negated : (v : ℕ) → 0 < v → v ≤ 2 ^ 31 → to_z w32 (of_z w32 (to_z w64 (of_z w64 (pos 0 -ℤ to_z w64 v)))) ≡ negsuc (v - 1)
 negated v h k = omega (arith, ints)
 
-pub minus_some : (bs : List ℕ) (v : ℕ) → get_or bs 0 0 ≡ 45 → 0 < v → v ≤ 2147483648 → decimal v ≡ behind bs → ReadsWord bs (Some (to_z w32 (of_z w32 (to_z w64 (of_z w64 (pos 0 -ℤ to_z w64 v))))))
-minus_some bs v first more h e =
-    let P : ℤ → Type 0 = λ z. SFits w32 z × (signed_decimal z ≡ bs) in
+pub minus_some : (bs : List ℕ) (v : ℕ) → 0 < v → v ≤ 2147483648 → decimal v ≡ bs → ReadsWord (45 ∷ bs) (Some (to_z w32 (of_z w32 (to_z w64 (of_z w64 (pos 0 -ℤ to_z w64 v))))))
+minus_some bs v more h e =
+    let P : ℤ → Type 0 = λ z. SFits w32 z × (signed_decimal z ≡ 45 ∷ bs) in
     let back : suc (v - 1) ≡ v = omega arith in
-    subst P (sym (negated v more h)) (record { sfits = omega arith }, ap (λ t. 45 ∷ t) (ap decimal back ∙ e) ∙ sym (minus_and_rest bs first))
+    subst P (sym (negated v more h)) (record { sfits = omega arith }, ap (λ t. 45 ∷ t) (ap decimal back ∙ e))
 
-minus_no_decimal : (n : ℕ) (bs : List ℕ) → n < 10 ^ 10 → get_or bs 0 0 ≡ 45 → decimal n ≡ bs → ⊥
-minus_no_decimal n bs h first e =
-    let s = shape_of bs n h e in
+minus_no_decimal : (n : ℕ) (bs : List ℕ) → n < 10 ^ 10 → decimal n ≡ 45 ∷ bs → ⊥
+minus_no_decimal n bs h e =
+    let s = shape_of (45 ∷ bs) n h e in
     let d = s.digit 0 s.some in
     omega arith
 
-pub minus_none : (bs : List ℕ) → get_or bs 0 0 ≡ 45 → ((n : ℕ) → 0 < n → n ≤ 2147483648 → decimal n ≡ behind bs → ⊥) → ReadsWord bs None
-minus_none bs first h = none_minus
+pub minus_none : (bs : List ℕ) → ((n : ℕ) → 0 < n → n ≤ 2147483648 → decimal n ≡ bs → ⊥) → ReadsWord (45 ∷ bs) None
+minus_none bs h = none_minus
   where
-    none_minus : (z : ℤ) → SFits w32 z → signed_decimal z ≡ bs → ⊥
-    none_minus (pos n) fits e = minus_no_decimal n bs (omega (arith, fits.sfits)) first e
+    none_minus : (z : ℤ) → SFits w32 z → signed_decimal z ≡ 45 ∷ bs → ⊥
+    none_minus (pos n) fits e = minus_no_decimal n bs (omega (arith, fits.sfits)) e
     none_minus (negsuc n) fits e =
-        let whole = e ∙ minus_and_rest bs first in
-        let rest : decimal (suc n) ≡ behind bs = ap (drop 1) whole in
+        let rest : decimal (suc n) ≡ bs = ap (drop 1) e in
         h (suc n) (omega arith) (omega (arith, fits.sfits)) rest
-
-pub no_first : (bs : List ℕ) → length bs ≡ 0 → false ≡ eqb (get_or bs 0 0) 45
-no_first [] h = refl
-no_first (b ∷ bs) h = absurd (omega arith)

@@ -1,5 +1,6 @@
 -- How the bytes of a line are read: its fields, and what a field says.
-use Rattle.std.specs.Prelude.{ℕ, zero, suc, ◌+◌, ◌-◌, ◌*◌, ◌^◌, Bool, true, false, cond, ◌&&◌, List, [], ◌∷◌, drop, ℤ, pos, neg_ℤ, Some, None, decimal, Option, ◌==◌, nat_le, nat_lt, slice_index}
+use Rattle.std.specs.Prelude.{ℕ, ◌+◌, ◌-◌, ◌*◌, ◌^◌, Bool, true, false, cond, ◌&&◌, List, [], ◌∷◌, drop, ℤ, pos, neg_ℤ, Some, None, decimal, Option, ◌==◌, nat_le, nat_lt, slice_index}
+use Rattle.std.specs.List.{find}
 use Rattle.std.specs.Int.Signed.{mag}
 use Rattle.std.specs.Fmt.{signed_decimal}
 use Rattle.std.specs.Str.{bytes_eq}
@@ -37,16 +38,9 @@ signed_value bs = cond (slice_index bs 0 == 45) (neg_ℤ (pos (read_on 0 (drop 1
 unfoldable pub word_of : List ℕ → Option ℤ
 word_of bs = given (nat_lt (mag (signed_value bs)) (2 ^ 31) && bytes_eq (signed_decimal (signed_value bs)) bs) (signed_value bs)
 
--- the word at a place of a table
-abbrev pub nth : {K : Type 0} → List K → ℕ → Option K
-nth [] i = None
-nth (k ∷ ks) zero = Some k
-nth (k ∷ ks) (suc i) = nth ks i
-
 -- the first of the table that is spelled so
 abbrev pub keyword_of : {K : Type 0} → (K → List ℕ) → List K → List ℕ → Option K
-keyword_of spelled [] bs = None
-keyword_of spelled (k ∷ ks) bs = cond (bytes_eq (spelled k) bs) (Some k) (keyword_of spelled ks bs)
+keyword_of spelled table bs = find (λ k. bytes_eq (spelled k) bs) table
 
 -- the one field, where there is just one
 abbrev pub only_field : List (List ℕ) → Option (List ℕ)
@@ -54,36 +48,48 @@ only_field [] = None
 only_field (f ∷ []) = Some f
 only_field (f ∷ g ∷ fs) = None
 
--- two numbers, where both are there
-abbrev pub both : Option ℕ → Option ℕ → Option (ℕ × ℕ)
+-- two values, where both are there
+abbrev pub both : {A B : Type 0} → Option A → Option B → Option (A × B)
 both None y = None
 both (Some a) None = None
 both (Some a) (Some b) = Some (a, b)
 
--- three numbers, where all are there
-abbrev pub all_three : Option ℕ → Option ℕ → Option ℕ → Option (ℕ × ℕ × ℕ)
+-- three values, where all are there
+abbrev pub all_three : {A B C : Type 0} → Option A → Option B → Option C → Option (A × B × C)
 all_three None y z = None
 all_three (Some a) None z = None
 all_three (Some a) (Some b) None = None
 all_three (Some a) (Some b) (Some c) = Some (a, b, c)
 
+-- what the only field says, where a field of bytes may say a value
+abbrev pub one_value : {A : Type 0} → (List ℕ → Option A) → List (List ℕ) → Option A
+one_value said [] = None
+one_value said (f ∷ []) = said f
+one_value said (f ∷ g ∷ fs) = None
+
+-- what the only two fields say
+abbrev pub two_values : {A B : Type 0} → (List ℕ → Option A) → (List ℕ → Option B) → List (List ℕ) → Option (A × B)
+two_values first second [] = None
+two_values first second (f ∷ []) = None
+two_values first second (f ∷ g ∷ []) = both (first f) (second g)
+two_values first second (f ∷ g ∷ h ∷ fs) = None
+
+-- what the only three fields say
+abbrev pub three_values : {A B C : Type 0} → (List ℕ → Option A) → (List ℕ → Option B) → (List ℕ → Option C) → List (List ℕ) → Option (A × B × C)
+three_values first second third [] = None
+three_values first second third (f ∷ []) = None
+three_values first second third (f ∷ g ∷ []) = None
+three_values first second third (f ∷ g ∷ h ∷ []) = all_three (first f) (second g) (third h)
+three_values first second third (f ∷ g ∷ h ∷ i ∷ fs) = None
+
 -- the number that the only field is
 abbrev pub one_number : List (List ℕ) → Option ℕ
-one_number [] = None
-one_number (f ∷ []) = number_of f
-one_number (f ∷ g ∷ fs) = None
+one_number = one_value number_of
 
 -- the numbers that the only two fields are
 abbrev pub two_numbers : List (List ℕ) → Option (ℕ × ℕ)
-two_numbers [] = None
-two_numbers (f ∷ []) = None
-two_numbers (f ∷ g ∷ []) = both (number_of f) (number_of g)
-two_numbers (f ∷ g ∷ h ∷ fs) = None
+two_numbers = two_values number_of number_of
 
 -- the numbers that the only three fields are
 abbrev pub three_numbers : List (List ℕ) → Option (ℕ × ℕ × ℕ)
-three_numbers [] = None
-three_numbers (f ∷ []) = None
-three_numbers (f ∷ g ∷ []) = None
-three_numbers (f ∷ g ∷ h ∷ []) = all_three (number_of f) (number_of g) (number_of h)
-three_numbers (f ∷ g ∷ h ∷ i ∷ fs) = None
+three_numbers = three_values number_of number_of number_of

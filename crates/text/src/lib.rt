@@ -2,11 +2,12 @@
 //! `first_line` cuts off a line, `Fields` takes it apart, and `number`, `signed_word` and `keyword_of` read a field.
 #![tactic(auto)]
 
-ghost use Rattle.std.specs.Prelude.{◌≡◌, ℕ, ◌^◌, ◌<◌, ◌≤◌, List, [], ◌∷◌, ◌++◌, length, ℤ, Some, None, decimal, MatchOption, FitsSigned, ◌==◌, ◌≢◌, slice_index};
+ghost use Rattle.std.specs.Prelude.{◌≡◌, ℕ, ◌^◌, ◌<◌, ◌≤◌, List, [], ◌∷◌, ◌++◌, length, ℤ, Some, None, decimal, MatchOption, FitsSigned, ◌==◌, ◌≢◌, slice_index, Option};
+ghost use Rattle.std.specs.List.{position};
 ghost use Rattle.std.specs.Option.{option_map};
 ghost use Rattle.std.specs.Fmt.{signed_decimal};
 ghost use Rattle.std.specs.Str.{bytes_eq};
-ghost use Rattle.text.specs.Reading.{cut, keyword_of, nth, number_of, one_number, only_field, three_numbers, two_numbers, word_of};
+ghost use Rattle.text.specs.Reading.{cut, keyword_of, number_of, one_value, only_field, three_values, two_values, word_of};
 ghost use Rattle.text.specs.Remaining.{fields_in, remaining};
 ghost use Rattle.text.specs.Slots.{Lacks};
 ghost use Rattle.std.specs.Int.{w32};
@@ -26,7 +27,7 @@ fn decimal_value(field: &[u8]) -> Option<u64>
     }
     let mut value: u64 = 0;
     for digit in field {
-        if *digit < b'0' || *digit > b'9' {
+        if !digit.is_ascii_digit() {
             return None;
         }
         value = value * 10 + u64::from(*digit - b'0');
@@ -61,19 +62,16 @@ fn plain_word(field: &[u8]) -> Option<i32>
     ensures value { result ≡ word_of field.now }
     ensures written { MatchOption result ((z : ℤ) → FitsSigned w32 z → signed_decimal z ≢ field.now) (λ z. FitsSigned w32 z × (signed_decimal z ≡ field.now)) }
 {
-    match decimal_up_to(field, 2147483647) {
-        Some(value) => Some(value as i32),
-        None => None,
-    }
+    let value = decimal_up_to(field, 2147483647)?;
+    Some(value as i32)
 }
 
-/// The word that a field with a minus is the decimal of.
-fn negative_word(field: &[u8]) -> Option<i32>
-    requires minus { slice_index field.now 0 ≡ 45 }
-    ensures value { result ≡ word_of field.now }
-    ensures written { MatchOption result ((z : ℤ) → FitsSigned w32 z → signed_decimal z ≢ field.now) (λ z. FitsSigned w32 z × (signed_decimal z ≡ field.now)) }
+/// The word that a minus and the digits after it are the decimal of.
+fn negative_word(digits: &[u8]) -> Option<i32>
+    ensures value { result ≡ word_of (45 ∷ digits.now) }
+    ensures written { MatchOption result ((z : ℤ) → FitsSigned w32 z → signed_decimal z ≢ 45 ∷ digits.now) (λ z. FitsSigned w32 z × (signed_decimal z ≡ 45 ∷ digits.now)) }
 {
-    let value = decimal_up_to(&field[1..], 2147483648)?;
+    let value = decimal_up_to(digits, 2147483648)?;
     if value > 0 {
         Some(-(value as i64) as i32)
     } else {
@@ -81,58 +79,76 @@ fn negative_word(field: &[u8]) -> Option<i32>
     }
 }
 
-/// Whether the first byte of a field is a minus.
-fn has_minus(field: &[u8]) -> bool
-    ensures first_byte { result ≡ (slice_index field.now 0 == 45) }
-{
-    !field.is_empty() && field[0] == b'-'
-}
-
 /// The word of 32 bits that a field is the decimal of, with a minus where it is negative: no plus, no needless zero, no minus zero.
 pub fn signed_word(field: &[u8]) -> Option<i32>
     ensures value { result ≡ word_of field.now }
     ensures written { MatchOption result ((z : ℤ) → FitsSigned w32 z → signed_decimal z ≢ field.now) (λ z. FitsSigned w32 z × (signed_decimal z ≡ field.now)) }
 {
-    if has_minus(field) {
-        negative_word(field)
-    } else {
-        plain_word(field)
+    match field.split_first() {
+        Some((b'-', digits)) => negative_word(digits),
+        _ => plain_word(field),
     }
-}
-
-/// Whether two slices hold the same bytes.
-fn same(left: &[u8], right: &[u8]) -> bool
-    ensures same_bytes { result ≡ bytes_eq left.now right.now }
-{
-    left == right
 }
 
 /// Whether a field is just the bytes of a word.
 pub fn spells(word: &[u8], field: &[u8]) -> bool
     ensures same_bytes { result ≡ bytes_eq word.now field.now }
 {
-    same(word, field)
+    word == field
+}
+
+/// A value that a field may say.
+pub trait FieldValue: Copy {
+    ghost said: { List ℕ → Option Self };
+
+    /// What a field says; none where it says no such value.
+    fn of_field(field: &[u8]) -> Option<Self>
+        ensures value { result ≡ said field.now };
+}
+
+impl FieldValue for u32 {
+    ghost said = { number_of };
+
+    // A number up to 65,535.
+    fn of_field(field: &[u8]) -> Option<u32> {
+        number(field)
+    }
+}
+
+impl FieldValue for i32 {
+    ghost said = { word_of };
+
+    // A word of 32 bits.
+    fn of_field(field: &[u8]) -> Option<i32> {
+        signed_word(field)
+    }
 }
 
 /// Words of one kind, each by its spelling.
-pub trait Keyword: Copy {
+pub trait Keyword: Copy + 'static {
     ghost spelled: { Self → List ℕ };
 
     ghost table: { List Self };
 
-    /// How many words there are.
-    fn count() -> usize
-        ensures all_words { result ≡ length table };
+    /// All words, in the order of the table.
+    fn all() -> &'static [Self]
+        ensures all_words { result.now ≡ table };
 
-    /// The word at a place of the table, or none past its end.
-    fn at(place: usize) -> Option<Self>
-        ensures word_at_place { result ≡ nth table place };
-
-    /// Whether a field spells the word.
-    fn is_spelled(self, field: &[u8]) -> bool
-        ensures same_bytes { result ≡ bytes_eq (spelled self) field.now };
+    /// The bytes that the word is spelled with.
+    fn spelling(self) -> &'static [u8]
+        ensures bytes_of_word { result.now ≡ spelled self };
 
     ghost found: { (k : Self) → keyword_of spelled table (spelled k) ≡ Some k };
+}
+
+/// The first word of the table that a field spells.
+fn first_spelled<K: Keyword>(field: &[u8]) -> Option<K>
+    ensures value { result ≡ keyword_of K.Keyword.spelled K.Keyword.table field.now }
+{
+    K::all()
+        .iter()
+        .copied()
+        .find(|word| word.spelling() == field)
 }
 
 /// The keyword that a field spells.
@@ -140,25 +156,22 @@ pub fn keyword_of<K: Keyword>(field: &[u8]) -> Option<K>
     ensures value { result ≡ keyword_of K.Keyword.spelled K.Keyword.table field.now }
     ensures spelled_so { MatchOption result ((k : K) → K.Keyword.spelled k ≢ field.now) (λ k. K.Keyword.spelled k ≡ field.now) }
 {
-    for place in 0..K::count() {
-        let word = K::at(place)?;
-        if word.is_spelled(field) {
-            return Some(word);
-        }
-    }
-    None
+    first_spelled(field)
+}
+
+/// The first place of a byte in a text; none where it stands nowhere.
+fn first_place(text: &[u8], byte: u8) -> Option<usize>
+    ensures place_of_byte { result ≡ position (λ x. x == byte) text.now }
+{
+    text.iter().position(|x| *x == byte)
 }
 
 /// The bytes before the first place of a byte, and those after it; none where it stands nowhere.
 fn cut_at(text: &[u8], byte: u8) -> Option<(&[u8], &[u8])>
     ensures parts { MatchOption result (Lacks byte text.now) (λ p. (text.now ≡ p.0.now ++ (byte ∷ p.1.now)) × Lacks byte p.0.now) }
 {
-    for (i, x) in text.iter().enumerate() {
-        if *x == byte {
-            return Some((&text[0..i], &text[i + 1..]));
-        }
-    }
-    None
+    let place = first_place(text, byte)?;
+    Some((&text[0..place], &text[place + 1..]))
 }
 
 /// A text cut after its first line feed: the line without it, and what follows. None where the text has none.
@@ -182,13 +195,7 @@ fn first_field(bytes: &[u8]) -> (&[u8], Option<&[u8]>)
 fn field_count(bytes: &[u8]) -> usize
     ensures number_of_fields { result ≡ length (cut bytes.now) }
 {
-    let mut commas = 0;
-    for byte in bytes {
-        if *byte == b',' {
-            commas += 1;
-        }
-    }
-    commas + 1
+    bytes.iter().filter(|byte| **byte == b',').count() + 1
 }
 
 /// The fields of a line that are still to be read.
@@ -233,31 +240,29 @@ impl<'a> Fields<'a> {
             Some(_) => None,
         }
     }
-}
 
-/// The number that the only field left is; none where there are none or several, or where it is no number.
-pub fn one_number(fields: Fields) -> Option<u32>
-    ensures value { result ≡ one_number (remaining fields.entry) }
-{
-    number(fields.only()?)
-}
+    /// What the only field left says; none where there are none or several, or where it says no such value.
+    pub fn one<V: FieldValue>(self) -> Option<V>
+        ensures value { result ≡ one_value V.said (remaining self.entry) }
+    {
+        V::of_field(self.only()?)
+    }
 
-/// The numbers that the two fields left are; none where there are fewer or more, or where one is no number.
-pub fn two_numbers(fields: Fields) -> Option<(u32, u32)>
-    ensures value { result ≡ two_numbers (remaining fields.entry) }
-{
-    let (first, others) = fields.split()?;
-    let a = number(first)?;
-    let b = one_number(others)?;
-    Some((a, b))
-}
+    /// What the two fields left say; none where there are fewer or more, or where one says no such value.
+    pub fn two<A: FieldValue, B: FieldValue>(self) -> Option<(A, B)>
+        ensures value { result ≡ two_values A.said B.said (remaining self.entry) }
+    {
+        let (first, others) = self.split()?;
+        Some((A::of_field(first)?, others.one()?))
+    }
 
-/// The numbers that the three fields left are; none where there are fewer or more, or where one is no number.
-pub fn three_numbers(fields: Fields) -> Option<(u32, u32, u32)>
-    ensures value { result ≡ three_numbers (remaining fields.entry) }
-{
-    let (first, others) = fields.split()?;
-    let a = number(first)?;
-    let (b, c) = two_numbers(others)?;
-    Some((a, b, c))
+    /// What the three fields left say; none where there are fewer or more, or where one says no such value.
+    pub fn three<A: FieldValue, B: FieldValue, C: FieldValue>(self) -> Option<(A, B, C)>
+        ensures value { result ≡ three_values A.said B.said C.said (remaining self.entry) }
+    {
+        let (first, others) = self.split()?;
+        let a = A::of_field(first)?;
+        let (b, c) = others.two()?;
+        Some((a, b, c))
+    }
 }

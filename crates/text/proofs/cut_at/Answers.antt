@@ -1,22 +1,12 @@
--- The byte that is found parts the text, and the bytes before it were passed.
-use Rattle.std.proofs.ByRecursion.{All-more}
-use Rattle.text.proofs.Steps.{lacks_all, lacks_before, parts_at}
-use Rattle.std.proofs.Common.{◌≡◌}
+-- The first place of the byte parts the text.
+use Rattle.std.proofs.Common.{sym, ◌∙◌}
+use Rattle.text.proofs.Steps.{lacks_unplaced, parted_at_first}
 use Rattle.text.proofs.cut_at.Goals as goal
 
-pub returns-then-x-byte : goal.returns-then-x-byte
-returns-then-x-byte c =
-    record {
-      parts = (
-        parts_at c.args.text.now c.loop-i.i c.args.byte c.loop-i-test.true c.if-x-byte.true,
-        lacks_before c.args.byte c.loop-i.i c.args.text.now c.loop-i.invariant,
-      );
-    }
-
-pub loop-i-preserved : goal.loop-i-preserved
-loop-i-preserved c =
-    All-more (λ b. b ≡ c.args.byte → ⊥) c.args.text.now c.loop-i.i 0 c.loop-i-test.true c.loop-i.invariant c.if-x-byte.false
+pub returns-in_err-place : goal.returns-in_err-place
+returns-in_err-place c =
+    rw c.from_residual.ensures (record { parts = lacks_unplaced c.args.text.now c.args.byte (sym c.first_place.ensures.place_of_byte ∙ c.in_err-place.was) })
 
 pub returns : goal.returns
 returns c =
-    record { parts = lacks_all c.args.byte c.loop-i.i c.args.text.now c.loop-i-test.false c.loop-i.invariant }
+    record { parts = parted_at_first c.args.text.now c.args.byte c.in_ok-place.place (sym c.first_place.ensures.place_of_byte ∙ c.in_ok-place.was) }

@@ -1,9 +1,13 @@
 -- Bytes that are refused have not the shape of a decimal, and the digits that were read write the value.
-use Rattle.std.proofs.Common.{◌≡◌, length, get_or, sym, ◌∙◌, inl, inr, arith}
+use Rattle.std.proofs.Common.{◌≡◌, ℕ, true, false, length, get_or, sym, ◌∙◌, inl, inr, arith}
 use Rattle.std.proofs.lemmas.Bool.{eqb-true, eqb-false}
 use Rattle.text.proofs.Steps.{digits_end, digits_step, shape_of, value_bound}
+use Rattle.std.specs.Char.{is_ascii_digit}
+use Rattle.std.specs.Int.{IsInRange}
 use Rattle.text.proofs.decimal_value.Goals as goal
-use Rattle.text.proofs.decimal_value.Goals.{then-digit-lt48-via-then-digit-lt48, then-digit-lt48-via-else-digit-lt48+then-digit-gt57}
+
+read_digit : (b : ℕ) → is_ascii_digit b ≡ true → IsInRange 48 57 b
+read_digit b h = grind arith
 
 pub returns-then-is_empty : goal.returns-then-is_empty
 returns-then-is_empty c =
@@ -21,16 +25,14 @@ pub returns-then-field-gt1 : goal.returns-then-field-gt1
 returns-then-field-gt1 c =
     record { written = λ n h e. let one = (shape_of c.args.field.now n h e).zero_alone c.if-field-eq48.true in omega arith }
 
-pub returns-then-digit-lt48 : goal.returns-then-digit-lt48
-returns-then-digit-lt48 c =
+pub returns-then-not-is_ascii_digit : goal.returns-then-not-is_ascii_digit
+returns-then-not-is_ascii_digit c =
     record {
       written =
           λ n h e.
           let d = (shape_of c.args.field.now n h e).digit c.loop-digit.digit-index c.loop-digit-test.true in
-          elim c.then-digit-lt48.branch [
-            | then-digit-lt48-via-then-digit-lt48 w ↦ omega (arith, d.0, w.if-digit-lt48.true)
-            | then-digit-lt48-via-else-digit-lt48+then-digit-gt57 w ↦ omega (arith, d.1, w.if-digit-gt57.true)
-          ];
+          let no : is_ascii_digit (get_or c.args.field.now c.loop-digit.digit-index 0) ≡ false = sym c.if-not-is_ascii_digit.ensures.value in
+          grind arith;
     }
 
 pub overflow_mul-value : goal.overflow_mul-value
@@ -45,7 +47,7 @@ overflow_add-value c =
 
 pub loop-digit-preserved : goal.loop-digit-preserved
 loop-digit-preserved c =
-    let step = digits_step c.args.field.now c.loop-digit.digit-index c.loop-digit.value c.loop-digit-test.true (c.if-digit-lt48.false, c.if-digit-gt57.false) c.loop-digit.invariant in
+    let step = digits_step c.args.field.now c.loop-digit.digit-index c.loop-digit.value c.loop-digit-test.true (read_digit _ (sym c.if-not-is_ascii_digit.ensures.value)) c.loop-digit.invariant in
     (step.0, omega (arith, step.1, c.from.ensures))
 
 pub returns : goal.returns
