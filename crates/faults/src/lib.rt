@@ -1,7 +1,9 @@
 //! Faults that a text, a library or the settings of play are refused for, with their places and numbers.
 #![tactic(auto)]
 
-ghost use Rattle.faults.specs.Numbers.{in_library, in_play, library_number, play_number, taken_in, text_number, typing_number};
+ghost use Rattle.faults.specs.declared.LibraryFault.TheVariants.{Text as LibraryText, Typing as LibraryTyping};
+ghost use Rattle.faults.specs.declared.PlayFault.TheVariants.{Text};
+ghost use Rattle.faults.specs.Numbers.{as_play, in_library, in_play, library_number, play_number, taken_in, text_number, typing_number};
 ghost use Rattle.std.specs.Prelude.{◌≡◌};
 
 /// A fault with its place: a line, or 0 where no line fits.
@@ -116,6 +118,46 @@ impl PlayFault {
     }
 }
 
+impl From<TextFault> for LibraryFault {
+    ghost from_gives = { λ f r. r ≡ LibraryText f };
+
+    /// A fault of the text is a fault of the library that it spells.
+    fn from(text: TextFault) -> LibraryFault {
+        LibraryFault::Text(text)
+    }
+}
+
+impl From<TypingFault> for LibraryFault {
+    ghost from_gives = { λ f r. r ≡ LibraryTyping f };
+
+    /// A fault of typing is a fault of the library.
+    fn from(typing: TypingFault) -> LibraryFault {
+        LibraryFault::Typing(typing)
+    }
+}
+
+impl From<TextFault> for PlayFault {
+    ghost from_gives = { λ f r. r ≡ Text f };
+
+    /// A fault of the text is a fault of play.
+    fn from(text: TextFault) -> PlayFault {
+        PlayFault::Text(text)
+    }
+}
+
+impl From<LibraryFault> for PlayFault {
+    ghost from_gives = { λ f r. r ≡ as_play f };
+
+    /// A fault of a library keeps its kind as a fault of play.
+    fn from(fault: LibraryFault) -> PlayFault {
+        match fault {
+            LibraryFault::Text(found) => PlayFault::Text(found),
+            LibraryFault::Typing(found) => PlayFault::Typing(found),
+        }
+    }
+}
+
+// Each wider kind of fault has its own impl here: one for all kinds would overlap with std's `From<T> for T`.
 impl From<Placed<TextFault>> for Placed<PlayFault> {
     ghost from_gives = { λ p r. r ≡ taken_in p };
 
@@ -123,7 +165,7 @@ impl From<Placed<TextFault>> for Placed<PlayFault> {
     fn from(placed: Placed<TextFault>) -> Placed<PlayFault> {
         Placed {
             place: placed.place,
-            fault: PlayFault::Text(placed.fault),
+            fault: placed.fault.into(),
         }
     }
 }
@@ -136,7 +178,7 @@ impl From<Placed<TextFault>> for Placed<LibraryFault> {
         let Placed { place, fault } = placed;
         Placed {
             place,
-            fault: LibraryFault::Text(fault),
+            fault: LibraryFault::from(fault),
         }
     }
 }
@@ -147,15 +189,9 @@ impl From<Placed<LibraryFault>> for Placed<PlayFault> {
     /// Takes a fault of a library in as a fault of play, at the same place.
     fn from(placed: Placed<LibraryFault>) -> Placed<PlayFault> {
         let Placed { place, fault } = placed;
-        match fault {
-            LibraryFault::Text(found) => Placed {
-                place,
-                fault: PlayFault::Text(found),
-            },
-            LibraryFault::Typing(found) => Placed {
-                place,
-                fault: PlayFault::Typing(found),
-            },
+        Placed {
+            place,
+            fault: PlayFault::from(fault),
         }
     }
 }
