@@ -3,7 +3,7 @@ ghost use Rattle.arithmetic.specs.Words.{operation_table, operation_word};
 ghost use Rattle.std.proofs.Common.{rules};
 
 use super::Operation;
-use text::{Keyword, spells};
+use text::Keyword;
 
 impl Keyword for Operation {
     ghost spelled = { operation_word };
@@ -12,29 +12,25 @@ impl Keyword for Operation {
 
     ghost found = { Prim.search rules };
 
-    fn count() -> usize {
-        5
-    }
-
-    fn at(place: usize) -> Option<Operation> {
-        [
+    // All operations.
+    fn all() -> &'static [Operation] {
+        &[
             Operation::Add,
             Operation::Sub,
             Operation::Mul,
             Operation::Less,
             Operation::Equal,
         ]
-        .get(place)
-        .copied()
     }
 
-    fn is_spelled(self, field: &[u8]) -> bool {
+    // Each operation by its bytes.
+    fn spelling(self) -> &'static [u8] {
         match self {
-            Operation::Add => spells(b"add", field),
-            Operation::Sub => spells(b"sub", field),
-            Operation::Mul => spells(b"mul", field),
-            Operation::Less => spells(b"less", field),
-            Operation::Equal => spells(b"equal", field),
+            Operation::Add => b"add",
+            Operation::Sub => b"sub",
+            Operation::Mul => b"mul",
+            Operation::Less => b"less",
+            Operation::Equal => b"equal",
         }
     }
 }

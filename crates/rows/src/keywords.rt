@@ -3,7 +3,7 @@ ghost use Rattle.rows.specs.Sections.{section_table, section_word};
 ghost use Rattle.std.proofs.Common.{rules};
 
 use super::forms::Section;
-use text::{Keyword, spells};
+use text::Keyword;
 
 impl Keyword for Section {
     ghost spelled = { section_word };
@@ -12,29 +12,25 @@ impl Keyword for Section {
 
     ghost found = { Prim.search rules };
 
-    fn count() -> usize {
-        5
-    }
-
-    fn at(place: usize) -> Option<Section> {
-        [
+    // All sections, in their order.
+    fn all() -> &'static [Section] {
+        &[
             Section::Types,
             Section::Variables,
             Section::Methods,
             Section::Globals,
             Section::Terms,
         ]
-        .get(place)
-        .copied()
     }
 
-    fn is_spelled(self, field: &[u8]) -> bool {
+    // Each section by its bytes.
+    fn spelling(self) -> &'static [u8] {
         match self {
-            Section::Types => spells(b"type", field),
-            Section::Variables => spells(b"var", field),
-            Section::Methods => spells(b"method", field),
-            Section::Globals => spells(b"global", field),
-            Section::Terms => spells(b"term", field),
+            Section::Types => b"type",
+            Section::Variables => b"var",
+            Section::Methods => b"method",
+            Section::Globals => b"global",
+            Section::Terms => b"term",
         }
     }
 }
