@@ -118,36 +118,20 @@ impl Counts {
     }
 }
 
-// Whether a row lists a type of this form.
-fn lists(row: Row, form: TypeForm) -> bool
-    ensures by_form { MatchBool result ((m : ℕ) × (row ≡ Row.«Type» m form)) ((m : ℕ) → row ≢ Row.«Type» m form) }
-{
-    match row {
-        Row::Type(_, listed) => listed == form,
-        _ => false,
-    }
-}
-
 // Whether a type of this form is listed before.
 fn listed_before(before: &[Row], form: TypeForm) -> bool
     ensures listed { MatchBool result (ListedType before.now form) (ListedType before.now form → ⊥) }
 {
-    for row in before {
-        if lists(*row, form) {
-            return true;
-        }
-    }
-    false
+    before
+        .iter()
+        .any(|row| matches!(row, Row::Type(_, listed) if *listed == form))
 }
 
 // Whether the type that a row lists is listed before.
 fn repeats(before: &[Row], row: Row) -> bool
     ensures listed { MatchBool result (ListedBefore before.now row) (ListedBefore before.now row → ⊥) }
 {
-    match row {
-        Row::Type(_, form) => listed_before(before, form),
-        Row::Variable(_, _) | Row::Method(_, _) | Row::Global(_, _, _) | Row::Term(_, _) => false,
-    }
+    matches!(row, Row::Type(_, form) if listed_before(before, form))
 }
 
 impl Tally {
@@ -155,15 +139,8 @@ impl Tally {
     pub fn new() -> Tally
         ensures tally_of_no_rows { Tallied [] result.counts result.leaves }
     {
-        let counts = Counts {
-            types: 0,
-            variables: 0,
-            methods: 0,
-            globals: 0,
-            terms: 0,
-        };
         Tally {
-            counts,
+            counts: Counts::default(),
             leaves: [0; 64],
         }
     }
@@ -172,19 +149,16 @@ impl Tally {
     pub fn counts(self) -> Counts
         ensures counts_of_tally { result ≡ self.counts }
     {
-        let tally = self;
-        tally.counts
+        let Tally { counts, .. } = self;
+        counts
     }
 
     /// The leaves of the type of a number, or none past the last type.
     pub fn leaves(self, number: u32) -> Option<u8>
         ensures leaves_of_type { result ≡ leaves_at self.counts self.leaves number }
     {
-        if number < self.counts.types {
-            Some(self.leaves[number as usize])
-        } else {
-            None
-        }
+        let types = self.counts.types as usize;
+        self.leaves[0..types].get(number as usize).copied()
     }
 
     // The leaves of the type that a row lists; 0 for any other row.
@@ -197,7 +171,7 @@ impl Tally {
                 u16::from(self.leaves[a as usize]) + u16::from(self.leaves[b as usize])
             }
             Row::Type(_, _) => 1,
-            Row::Variable(_, _) | Row::Method(_, _) | Row::Global(_, _, _) | Row::Term(_, _) => 0,
+            _ => 0,
         }
     }
 
