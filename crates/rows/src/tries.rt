@@ -122,9 +122,7 @@ impl Counts {
 fn listed_before(before: &[Row], form: TypeForm) -> bool
     ensures listed { MatchBool result (ListedType before.now form) (ListedType before.now form → ⊥) }
 {
-    before
-        .iter()
-        .any(|row| matches!(row, Row::Type(_, listed) if *listed == form))
+    before.iter().any(|row| matches!(row, Row::Type(_, listed) if *listed == form))
 }
 
 // Whether the type that a row lists is listed before.
