@@ -9,7 +9,7 @@ ghost use Rattle.arithmetic.specs.Counts.{counts_fit, counter_result_stays};
 ghost use Rattle.arithmetic.specs.Ranges.{within, ascending_listed};
 
 use crate::kinds::Counter;
-use crate::{Arithmetic, HostWords, Operation, range};
+use crate::{Arithmetic, HostRange, HostWords, Operation};
 use faults::PlayFault;
 
 impl Counter {
@@ -17,12 +17,10 @@ impl Counter {
     pub fn new(top: u32, lo: i32, hi: i32) -> Result<Counter, PlayFault>
         ensures made_within_limits_only { counter_made top lo hi result }
     {
-        if 1 <= top && top <= 65535 && 0 <= lo && hi <= top as i32 && range::listable(lo, hi) {
-            Ok(Counter {
-                top: top as u16,
-                lo,
-                hi,
-            })
+        let host = HostRange::new(lo, hi)?;
+        let top = u16::try_from(top).map_err(|_| PlayFault::Settings)?;
+        if 1 <= top && 0 <= lo && hi <= i32::from(top) {
+            Ok(Counter { top, host })
         } else {
             Err(PlayFault::Settings)
         }
@@ -30,7 +28,7 @@ impl Counter {
 }
 
 impl Arithmetic for Counter {
-    ghost meaning = { λ k. counter_meaning k.top k.lo k.hi };
+    ghost meaning = { λ k. counter_meaning k.top k.host.lo k.host.hi };
 
     ghost closed = { λ a.
         record {
@@ -39,7 +37,7 @@ impl Arithmetic for Counter {
           less_one_or_zero = λ x y _ _. one_or_zero_is (int_lt x y);
           equal_one_or_zero = λ x y _ _. one_or_zero_is (same x y);
           zero_lawful = λ z h. rw (zero_is z h) (Prim.grind (arith, ints));
-          may_say_lawful = λ z h. let w = within a.lo a.hi z h in Prim.grind (arith, ints);
+          may_say_lawful = λ z h. let w = within a.host.lo a.host.hi z h in Prim.grind (arith, ints);
         } };
 
     // The result of an operation on two words from 0 to the top, and none on others.
@@ -47,15 +45,15 @@ impl Arithmetic for Counter {
         if !self.lawful(x) || !self.lawful(y) {
             return None;
         }
-        let top = self.top as i32;
-        let product = x as i64 * y as i64;
+        let top = i32::from(self.top);
+        let product = x.saturating_mul(y);
         Some(match operation {
             Operation::Add if x + y > top => top,
             Operation::Add => x + y,
             Operation::Sub if x < y => 0,
             Operation::Sub => x - y,
-            Operation::Mul if product > top as i64 => top,
-            Operation::Mul => product as i32,
+            Operation::Mul if product > top => top,
+            Operation::Mul => product,
             Operation::Less if x < y => 1,
             Operation::Equal if x == y => 1,
             Operation::Less | Operation::Equal => 0,
@@ -64,7 +62,7 @@ impl Arithmetic for Counter {
 
     // Lawful are 0 to the top.
     fn lawful(&self, x: i32) -> bool {
-        0 <= x && x <= self.top as i32
+        (0..=i32::from(self.top)).contains(&x)
     }
 
     // Only 0 is zero.
@@ -72,24 +70,24 @@ impl Arithmetic for Counter {
         x == 0
     }
 
-    // The host may say `lo` to `hi`.
+    // The host may say the words of its range.
     fn may_say(&self, x: i32) -> bool {
-        range::holds(self.lo, self.hi, x)
+        self.host.holds(x)
     }
 }
 
 impl HostWords for Counter {
-    ghost list = { λ k. ascending k.lo k.hi };
+    ghost list = { λ k. ascending k.host.lo k.host.hi };
 
-    ghost listed = { λ a. ascending_listed a.lo a.hi a.limits.4 (counter_meaning a.top a.lo a.hi) (λ z. refl) };
+    ghost listed = { λ a. ascending_listed a.host.lo a.host.hi a.host.limits (counter_meaning a.top a.host.lo a.host.hi) (λ z. refl) };
 
-    // The number of words from `lo` to `hi`.
+    // The number of words of the host's range.
     fn list_length(&self) -> u16 {
-        range::count(self.lo, self.hi)
+        self.host.count()
     }
 
-    // The word that stands `place` places after `lo`.
+    // The word that stands `place` places after the least of the range.
     fn word_at(&self, place: u16) -> Option<i32> {
-        range::at(self.lo, self.hi, place)
+        self.host.at(place)
     }
 }

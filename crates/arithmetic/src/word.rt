@@ -8,7 +8,7 @@ ghost use Rattle.arithmetic.specs.Wraps.{word_fits, word_result_stays, one_or_ze
 ghost use Rattle.arithmetic.specs.Ranges.{within, ascending_listed};
 
 use crate::kinds::Word;
-use crate::{Arithmetic, HostWords, Operation, range};
+use crate::{Arithmetic, HostRange, HostWords, Operation};
 use faults::PlayFault;
 
 impl Word {
@@ -16,16 +16,13 @@ impl Word {
     pub fn new(lo: i32, hi: i32) -> Result<Word, PlayFault>
         ensures made_within_limits_only { word_made lo hi result }
     {
-        if range::listable(lo, hi) {
-            Ok(Word { lo, hi })
-        } else {
-            Err(PlayFault::Settings)
-        }
+        let host = HostRange::new(lo, hi)?;
+        Ok(Word { host })
     }
 }
 
 impl Arithmetic for Word {
-    ghost meaning = { λ w. word_meaning w.lo w.hi };
+    ghost meaning = { λ w. word_meaning w.host.lo w.host.hi };
 
     ghost closed = { λ a.
         record {
@@ -34,10 +31,11 @@ impl Arithmetic for Word {
           less_one_or_zero = λ x y _ _. one_or_zero_is (int_lt x y);
           equal_one_or_zero = λ x y _ _. one_or_zero_is (same x y);
           zero_lawful = λ z h. rw (zero_is z h);
-          may_say_lawful = λ z h. let w = within a.lo a.hi z h in Prim.grind (arith, ints);
+          may_say_lawful = λ z h. let w = within a.host.lo a.host.hi z h in Prim.grind (arith, ints);
         } };
 
     // The result of an operation, which every two words have.
+    #[tactic(auto, using(std::proofs::lemmas::Int::wraps))]
     fn operate(&self, operation: Operation, x: i32, y: i32) -> Option<i32> {
         Some(match operation {
             Operation::Add => x.wrapping_add(y),
@@ -59,24 +57,24 @@ impl Arithmetic for Word {
         x == 0
     }
 
-    // The host may say `lo` to `hi`.
+    // The host may say the words of its range.
     fn may_say(&self, x: i32) -> bool {
-        range::holds(self.lo, self.hi, x)
+        self.host.holds(x)
     }
 }
 
 impl HostWords for Word {
-    ghost list = { λ w. ascending w.lo w.hi };
+    ghost list = { λ w. ascending w.host.lo w.host.hi };
 
-    ghost listed = { λ a. ascending_listed a.lo a.hi a.limits.2 (word_meaning a.lo a.hi) (λ z. refl) };
+    ghost listed = { λ a. ascending_listed a.host.lo a.host.hi a.host.limits (word_meaning a.host.lo a.host.hi) (λ z. refl) };
 
-    // The number of words from `lo` to `hi`.
+    // The number of words of the host's range.
     fn list_length(&self) -> u16 {
-        range::count(self.lo, self.hi)
+        self.host.count()
     }
 
-    // The word that stands `place` places after `lo`.
+    // The word that stands `place` places after the least of the range.
     fn word_at(&self, place: u16) -> Option<i32> {
-        range::at(self.lo, self.hi, place)
+        self.host.at(place)
     }
 }
