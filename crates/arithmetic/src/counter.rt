@@ -1,12 +1,11 @@
 //! The counter arithmetic: the words from 0 to a top, where results stop at both ends.
-ghost use Rattle.std.specs.Prelude.{int_lt, refl};
-ghost use Rattle.arithmetic.specs.Kinds.{ascending, counter_meaning, same};
+ghost use Rattle.std.specs.Prelude.{refl};
+ghost use Rattle.arithmetic.specs.Kinds.{ascending, counter_meaning};
 ghost use Rattle.arithmetic.specs.Made.{counter_made};
 ghost use Rattle.std.proofs.Common.{arith};
 ghost use Rattle.std.proofs.lemmas.Int.{ints};
-ghost use Rattle.arithmetic.specs.Wraps.{one_or_zero_is, zero_is};
-ghost use Rattle.arithmetic.specs.Counts.{counts_fit, counter_result_stays};
-ghost use Rattle.arithmetic.specs.Ranges.{within, ascending_listed};
+ghost use Rattle.arithmetic.specs.Counts.{counter_result_stays};
+ghost use Rattle.arithmetic.specs.Ranges.{ascending_listed};
 
 use crate::kinds::Counter;
 use crate::{Arithmetic, HostRange, HostWords, Operation};
@@ -30,15 +29,7 @@ impl Counter {
 impl Arithmetic for Counter {
     ghost meaning = { λ k. counter_meaning k.top k.host.lo k.host.hi };
 
-    ghost closed = { λ a.
-        record {
-          lawful_fits = λ z h. counts_fit a.top z a.limits.1 h;
-          result_lawful = λ o x y h k. counter_result_stays a.top o x y a.limits.0 h k;
-          less_one_or_zero = λ x y _ _. one_or_zero_is (int_lt x y);
-          equal_one_or_zero = λ x y _ _. one_or_zero_is (same x y);
-          zero_lawful = λ z h. rw (zero_is z h) (Prim.grind (arith, ints));
-          may_say_lawful = λ z h. let w = within a.host.lo a.host.hi z h in Prim.grind (arith, ints);
-        } };
+    ghost closed = { λ a. Prim.grind (arith, ints, counter_result_stays) };
 
     // The result of an operation on two words from 0 to the top, and none on others.
     fn operate(&self, operation: Operation, x: i32, y: i32) -> Option<i32> {
@@ -79,7 +70,7 @@ impl Arithmetic for Counter {
 impl HostWords for Counter {
     ghost list = { λ k. ascending k.host.lo k.host.hi };
 
-    ghost listed = { λ a. ascending_listed a.host.lo a.host.hi a.host.limits (counter_meaning a.top a.host.lo a.host.hi) (λ z. refl) };
+    ghost listed = { λ a. ascending_listed _ _ a.host.limits _ (λ z. refl) };
 
     // The number of words of the host's range.
     fn list_length(&self) -> u16 {

@@ -1,11 +1,11 @@
 //! The word arithmetic: every word is lawful, and results keep their low 32 bits.
-ghost use Rattle.std.specs.Prelude.{int_lt, refl};
-ghost use Rattle.arithmetic.specs.Kinds.{ascending, word_meaning, same};
+ghost use Rattle.std.specs.Prelude.{refl};
+ghost use Rattle.arithmetic.specs.Kinds.{ascending, word_meaning};
 ghost use Rattle.arithmetic.specs.Made.{word_made};
 ghost use Rattle.std.proofs.Common.{arith};
 ghost use Rattle.std.proofs.lemmas.Int.{ints};
-ghost use Rattle.arithmetic.specs.Wraps.{word_fits, word_result_stays, one_or_zero_is, zero_is};
-ghost use Rattle.arithmetic.specs.Ranges.{within, ascending_listed};
+ghost use Rattle.arithmetic.specs.Wraps.{word_result_stays};
+ghost use Rattle.arithmetic.specs.Ranges.{ascending_listed};
 
 use crate::kinds::Word;
 use crate::{Arithmetic, HostRange, HostWords, Operation};
@@ -24,15 +24,7 @@ impl Word {
 impl Arithmetic for Word {
     ghost meaning = { λ w. word_meaning w.host.lo w.host.hi };
 
-    ghost closed = { λ a.
-        record {
-          lawful_fits = word_fits;
-          result_lawful = λ o x y _ _. word_result_stays o x y;
-          less_one_or_zero = λ x y _ _. one_or_zero_is (int_lt x y);
-          equal_one_or_zero = λ x y _ _. one_or_zero_is (same x y);
-          zero_lawful = λ z h. rw (zero_is z h);
-          may_say_lawful = λ z h. let w = within a.host.lo a.host.hi z h in Prim.grind (arith, ints);
-        } };
+    ghost closed = { λ a. Prim.grind (arith, ints, word_result_stays) };
 
     // The result of an operation, which every two words have.
     #[tactic(auto, using(std::proofs::lemmas::Int::wraps))]
@@ -66,7 +58,7 @@ impl Arithmetic for Word {
 impl HostWords for Word {
     ghost list = { λ w. ascending w.host.lo w.host.hi };
 
-    ghost listed = { λ a. ascending_listed a.host.lo a.host.hi a.host.limits (word_meaning a.host.lo a.host.hi) (λ z. refl) };
+    ghost listed = { λ a. ascending_listed _ _ a.host.limits _ (λ z. refl) };
 
     // The number of words of the host's range.
     fn list_length(&self) -> u16 {
