@@ -17,11 +17,9 @@ impl Counter {
         ensures made_within_limits_only { counter_made top lo hi result }
     {
         let host = HostRange::new(lo, hi)?;
-        let top = u16::try_from(top).map_err(|_| PlayFault::Settings)?;
-        if 1 <= top && 0 <= lo && hi <= i32::from(top) {
-            Ok(Counter { top, host })
-        } else {
-            Err(PlayFault::Settings)
+        match u16::try_from(top) {
+            Ok(top) if 1 <= top && 0 <= lo && hi <= i32::from(top) => Ok(Counter { top, host }),
+            _ => Err(PlayFault::Settings),
         }
     }
 }

@@ -27,7 +27,7 @@ impl Arithmetic for Word {
     ghost closed = { λ a. Prim.grind (arith, ints, word_result_stays) };
 
     // The result of an operation, which every two words have.
-    #[tactic(auto, using(std::proofs::lemmas::Int::wraps))]
+    #[tactic(auto, using(std::proofs::lemmas::Int::wraps, crate::specs::Wraps::fits_word))]
     fn operate(&self, operation: Operation, x: i32, y: i32) -> Option<i32> {
         Some(match operation {
             Operation::Add => x.wrapping_add(y),
