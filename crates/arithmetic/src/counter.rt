@@ -35,6 +35,7 @@ impl Arithmetic for Counter {
             return None;
         }
         let top = i32::from(self.top);
+        // A product that leaves 32 bits is past the top as well.
         let product = x.saturating_mul(y);
         Some(match operation {
             Operation::Add if x + y > top => top,
@@ -54,7 +55,7 @@ impl Arithmetic for Counter {
         (0..=i32::from(self.top)).contains(&x)
     }
 
-    // Only 0 is zero.
+    // Only 0 is zero: each kind says so itself, since the trait leaves open which lawful words are zero.
     fn zero(&self, x: i32) -> bool {
         x == 0
     }
@@ -68,6 +69,7 @@ impl Arithmetic for Counter {
 impl HostWords for Counter {
     ghost list = { λ k. ascending k.host.lo k.host.hi };
 
+    // The range answers both calls. Each kind passes them on: an impl for all kinds with a range would keep others from lists of their own.
     ghost listed = { λ a. ascending_listed _ _ a.host.limits _ (λ z. refl) };
 
     // The number of words of the host's range.

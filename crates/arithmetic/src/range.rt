@@ -3,7 +3,7 @@ ghost use Rattle.arithmetic.specs.Settings.{host_range};
 
 use faults::PlayFault;
 
-/// The most words that a host's list may have.
+// The most words that a host's list may have.
 const MOST_WORDS: u32 = 4096;
 
 /// The words from `lo` to `hi`, of which there are 1 to 4,096.
@@ -42,6 +42,7 @@ impl HostRange {
     pub fn count(self) -> u16
         ensures length_of_range { result ≡ (ascending self.lo self.hi).length }
     {
+        // The two ends are 4,095 apart at most, so the cast loses nothing.
         self.hi.abs_diff(self.lo) as u16 + 1
     }
 

@@ -44,7 +44,7 @@ impl Arithmetic for Word {
         true
     }
 
-    // Only 0 is zero.
+    // Only 0 is zero: each kind says so itself, since the trait leaves open which lawful words are zero.
     fn zero(&self, x: i32) -> bool {
         x == 0
     }
@@ -58,6 +58,7 @@ impl Arithmetic for Word {
 impl HostWords for Word {
     ghost list = { λ w. ascending w.host.lo w.host.hi };
 
+    // The range answers both calls. Each kind passes them on: an impl for all kinds with a range would keep others from lists of their own.
     ghost listed = { λ a. ascending_listed _ _ a.host.limits _ (λ z. refl) };
 
     // The number of words of the host's range.
