@@ -7,12 +7,13 @@ use Rattle.faults.specs.declared.TextFault.TheVariants.{Form, Number}
 use Rattle.faults.specs.declared.PlayFault.{PlayFault}
 use Rattle.faults.specs.declared.PlayFault.TheVariants.{Text, Typing, Bounds, Settings as SettingsFault}
 use Rattle.faults.specs.Numbers.{play_number}
+use Rattle.arithmetic.specs.declared.range.HostRange.{HostRange}
 use Rattle.arithmetic.specs.declared.kinds.Word.{Word as WordArithmetic}
 use Rattle.arithmetic.specs.declared.kinds.Counter.{Counter as CounterArithmetic}
-use Rattle.arithmetic.specs.Settings.{word_settings, counter_settings}
+use Rattle.arithmetic.specs.Settings.{host_range, word_settings, counter_settings}
 use Rattle.text.specs.Slots.{Slot, literal, number, word, written, InRange, Lacks, Free, Fits}
 use Rattle.text.specs.Reading.{keyword_of, number_of, word_of, cut}
-use Rattle.text.proofs.Laws.{none_some, number_written, number_exact, word_written, word_exact, keyword_found}
+use Rattle.text.proofs.Laws.{number_written, number_exact, word_written, word_exact, keyword_found}
 use Rattle.heads.specs.declared.keywords.KindWord.{KindWord}
 use Rattle.heads.specs.declared.keywords.KindWord.TheVariants.{Word as WordKind, Counter as CounterKind}
 use Rattle.heads.specs.declared.settings.Kind.{Kind}
@@ -24,7 +25,7 @@ use Rattle.heads.specs.Fields.{after_word, both_words, two_words, with_number, w
 use Rattle.heads.specs.Lines.{SpellsWithin, Least, Only}
 use Rattle.text.specs.Lines.{Spells}
 use Rattle.heads.specs.Arithmetics.{settings_slots, SettingsWithinLimits, settings_of, Made, ArithmeticLineFault, ArithmeticAnswer}
-use Rattle.heads.proofs.Lines.{Reading, false_true, free_fits, after_found, formed_line, spells_read, spells_once, text_faultless, feed_unformed, fields_unformed, spells_none, same_made}
+use Rattle.heads.proofs.Lines.{Reading, free_fits, after_found, formed_line, spells_read, spells_once, text_faultless, feed_unformed, fields_unformed, spells_none, same_made}
 use Rattle.text.proofs.Forms.{words_free, fits_length, word_first}
 use Rattle.heads.proofs.Answering.{least_form, least_number, one_answer}
 
@@ -35,28 +36,28 @@ settings_written (CounterNumbers top lo hi) h = rw (number_written top h.1.1.0, 
 
 -- the two words that are read have 32 bits, and are written by the two fields
 both_say : (x y : Option ℤ) (p : ℤ × ℤ) → both_words x y ≡ Some p → (x ≡ Some p.0) × (y ≡ Some p.1)
-both_say None y p e = absurd (none_some p e)
-both_say (Some a) None p e = absurd (none_some p e)
+both_say None y p e = cc
+both_say (Some a) None p e = cc
 both_say (Some a) (Some b) p e =
     let d : ◌≡◌ {A = ℤ × ℤ} (a, b) p = cc in
     (ap (λ (t : ℤ × ℤ). Some t.0) d, ap (λ (t : ℤ × ℤ). Some t.1) d)
 
 words_exact : (fs : List (List ℕ)) (p : ℤ × ℤ) → two_words fs ≡ Some p → (fs ≡ signed_decimal p.0 ∷ signed_decimal p.1 ∷ []) × SFits w32 p.0 × SFits w32 p.1
-words_exact [] p e = absurd (none_some p e)
-words_exact (f ∷ []) p e = absurd (none_some p e)
+words_exact [] p e = cc
+words_exact (f ∷ []) p e = cc
 words_exact (f ∷ g ∷ []) p e =
     let q = both_say (word_of f) (word_of g) p e in
     let x = word_exact f p.0 q.0 in
     let y = word_exact g p.1 q.1 in
     (rw (x.1, y.1) refl, x.0, y.0)
-words_exact (f ∷ g ∷ h ∷ fs) p e = absurd (none_some p e)
+words_exact (f ∷ g ∷ h ∷ fs) p e = cc
 
 -- slots whose numbers are in range, and that the fields are written by
 abbrev WrittenBy : Settings → List (List ℕ) → Type 0
 WrittenBy s gs = AllByRecursion InRange (settings_slots s) × (map written (settings_slots s) ≡ gs)
 
 word_exact_of : (o : Option (ℤ × ℤ)) (fs : List (List ℕ)) (s : Settings) → two_words fs ≡ o → word_of_range o ≡ Some s → WrittenBy s (arithmetic_word ∷ kind_word WordKind ∷ fs)
-word_exact_of None fs s is e = absurd (none_some s e)
+word_exact_of None fs s is e = cc
 word_exact_of (Some p) fs s is e =
     let x = words_exact fs p is in
     let same : WordNumbers p.0 p.1 ≡ s = cc in
@@ -64,8 +65,8 @@ word_exact_of (Some p) fs s is e =
     ((tt, (tt, (x.1, (x.2, tt)))), ap (λ hs. arithmetic_word ∷ kind_word WordKind ∷ hs) (sym x.0))
 
 counter_exact_of : (m : Option ℕ) (o : Option (ℤ × ℤ)) (f : List ℕ) (fs : List (List ℕ)) (s : Settings) → number_of f ≡ m → two_words fs ≡ o → counter_of_range (with_number m o) ≡ Some s → WrittenBy s (arithmetic_word ∷ kind_word CounterKind ∷ f ∷ fs)
-counter_exact_of None o f fs s is are e = absurd (none_some s e)
-counter_exact_of (Some n) None f fs s is are e = absurd (none_some s e)
+counter_exact_of None o f fs s is are e = cc
+counter_exact_of (Some n) None f fs s is are e = cc
 counter_exact_of (Some n) (Some p) f fs s is are e =
     let y = number_exact f n is in
     let x = words_exact fs p are in
@@ -75,7 +76,7 @@ counter_exact_of (Some n) (Some p) f fs s is are e =
 
 kind_exact : (k : KindWord) (fs : List (List ℕ)) (s : Settings) → settings_by (Some k) fs ≡ Some s → WrittenBy s (arithmetic_word ∷ kind_word k ∷ fs)
 kind_exact WordKind fs s e = word_exact_of (two_words fs) fs s refl e
-kind_exact CounterKind [] s e = absurd (none_some s e)
+kind_exact CounterKind [] s e = cc
 kind_exact CounterKind (f ∷ fs) s e = counter_exact_of (number_of f) (two_words fs) f fs s refl refl e
 
 -- the settings that fields spell are written by them
@@ -83,12 +84,12 @@ settings_exact : (gs : List (List ℕ)) (s : Settings) → settings_in gs ≡ So
 settings_exact gs s e = after (after_word arithmetic_word gs) refl e
   where
     named : (f : List ℕ) (fs : List (List ℕ)) (k : Option KindWord) → keyword_of kind_word kind_table f ≡ k → settings_by k fs ≡ Some s → WrittenBy s (arithmetic_word ∷ f ∷ fs)
-    named f fs None found h = absurd (none_some s h)
+    named f fs None found h = cc
     named f fs (Some k) found h = subst (λ v. WrittenBy s (arithmetic_word ∷ v ∷ fs)) (keyword_found kind_word kind_table f k found) (kind_exact k fs s h)
 
     after : (o : Option (List (List ℕ))) → after_word arithmetic_word gs ≡ o → settings_after o ≡ Some s → WrittenBy s gs
-    after None is h = absurd (none_some s h)
-    after (Some []) is h = absurd (none_some s h)
+    after None is h = cc
+    after (Some []) is h = cc
     after (Some (f ∷ fs)) is h =
         subst (WrittenBy s) (sym (after_found arithmetic_word gs (f ∷ fs) is)) (named f fs (keyword_of kind_word kind_table f) refl h)
 
@@ -117,13 +118,13 @@ settings_form : (gs : List (List ℕ)) → AllByRecursion Free gs → settings_f
 settings_form gs free e = after (after_word arithmetic_word gs) refl e
   where
     named : (f : List ℕ) (fs : List (List ℕ)) → AllByRecursion Free fs → (k : Option KindWord) → keyword_of kind_word kind_table f ≡ k → settings_formed_by k fs ≡ true → (s : Settings) × Fits (settings_slots s) (arithmetic_word ∷ f ∷ fs)
-    named f fs here None found h = absurd (false_true h)
+    named f fs here None found h = cc
     named f fs here (Some k) found h =
         subst (λ v. (s : Settings) × Fits (settings_slots s) (arithmetic_word ∷ v ∷ fs)) (keyword_found kind_word kind_table f k found) (kind_form k fs here h)
 
     after : (o : Option (List (List ℕ))) → after_word arithmetic_word gs ≡ o → settings_formed_after o ≡ true → (s : Settings) × Fits (settings_slots s) gs
-    after None is h = absurd (false_true h)
-    after (Some []) is h = absurd (false_true h)
+    after None is h = cc
+    after (Some []) is h = cc
     after (Some (f ∷ fs)) is h =
         let whole = after_found arithmetic_word gs (f ∷ fs) is in
         let here : AllByRecursion Free (arithmetic_word ∷ f ∷ fs) = subst (AllByRecursion Free) whole free in
@@ -150,21 +151,26 @@ settings_reading = record {
 }
 
 -- two arithmetics of the same settings are the same
-same_word : (v w : WordArithmetic) → v.lo ≡ w.lo → v.hi ≡ w.hi → v ≡ w
-same_word v w lo hi =
-    same_made (λ (r : ℤ × ℤ). word_settings r.0 r.1) (λ r. hlevel props) (λ r h. record { lo = r.0; hi = r.1; limits = h })
+same_range : (v w : HostRange) → v.lo ≡ w.lo → v.hi ≡ w.hi → v ≡ w
+same_range v w lo hi =
+    same_made (λ (r : ℤ × ℤ). host_range r.0 r.1) (λ r. hlevel props) (λ r h. record { lo = r.0; hi = r.1; limits = h })
     (v.lo, v.hi) (w.lo, w.hi) v.limits w.limits (cc)
 
-same_counter : (v w : CounterArithmetic) → v.top ≡ w.top → v.lo ≡ w.lo → v.hi ≡ w.hi → v ≡ w
-same_counter v w top lo hi =
-    same_made (λ (r : ℕ × ℤ × ℤ). counter_settings r.0 r.1 r.2) (λ r. hlevel props) (λ r h. record { top = r.0; lo = r.1; hi = r.2; limits = h })
-    (v.top, v.lo, v.hi) (w.top, w.lo, w.hi) v.limits w.limits (cc)
+same_word : (v w : WordArithmetic) → v.host ≡ w.host → v ≡ w
+same_word v w host =
+    same_made (λ (r : HostRange). word_settings r.lo r.hi) (λ r. hlevel props) (λ r h. record { host = r; limits = h })
+    v.host w.host v.limits w.limits host
+
+same_counter : (v w : CounterArithmetic) → v.top ≡ w.top → v.host ≡ w.host → v ≡ w
+same_counter v w top host =
+    same_made (λ (r : ℕ × HostRange). counter_settings r.0 r.1.lo r.1.hi) (λ r. hlevel props) (λ r h. record { top = r.0; host = r.1; limits = h })
+    (v.top, v.host) (w.top, w.host) v.limits w.limits (cc)
 
 same_kind : (a b : Kind) → settings_of a ≡ settings_of b → a ≡ b
-same_kind (Word v) (Word w) e = ap Word (same_word v w (cc) (cc))
-same_kind (Word v) (Counter w) e = let z : ◌≡◌ {A = ℕ} 0 1 = cc in absurd (omega arith)
-same_kind (Counter v) (Word w) e = let z : ◌≡◌ {A = ℕ} 0 1 = cc in absurd (omega arith)
-same_kind (Counter v) (Counter w) e = ap Counter (same_counter v w (cc) (cc) (cc))
+same_kind (Word v) (Word w) e = ap Word (same_word v w (same_range v.host w.host (cc) (cc)))
+same_kind (Word v) (Counter w) e = cc
+same_kind (Counter v) (Word w) e = cc
+same_kind (Counter v) (Counter w) e = ap Counter (same_counter v w (cc) (same_range v.host w.host (cc) (cc)))
 
 module _ (body : List ℕ) where
   abbrev line : List ℕ
