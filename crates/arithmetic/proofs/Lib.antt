@@ -1,0 +1,3 @@
+-- Theorems on the kinds of arithmetic that no contract of this crate cites.
+pub mod Lawful
+pub mod Products
