@@ -187,7 +187,7 @@ module _ (before : List Row) (c : Counts) (table : List ℕ) (row : Row) (h : Ta
 
     module _ (o : OrderBy c row) where
       pub reference_least : all_below c (references row) ≡ false → Least (RowFault room before row) Reference
-      reference_least e = record { here = λ a. let z : true ≡ false = sym (references_told (references row) a) ∙ e in let k : ◌≡◌ {A = ℕ} 0 1 = cc in omega arith; none_smaller = smaller }
+      reference_least e = record { here = λ a. let z : true ≡ false = sym (references_told (references row) a) ∙ e in cc; none_smaller = smaller }
         where
           smaller : (other : TextFault) → text_number other < 13 → RowFault room before row other → ⊥
           smaller Form lt f = f
@@ -218,7 +218,7 @@ module _ (before : List Row) (c : Counts) (table : List ℕ) (row : Row) (h : Ta
           within = record { section_limit = rw (← (h.counts (section row))) p.section_limit; four_leaves = rw (leaves_told row back) at p.four_leaves }
 
           no_limit : RowFault room before row Limit → ⊥
-          no_limit = ⊎_elim (λ f. f within) (λ e. let z : true ≡ false = sym p.has_room ∙ e in let k : ◌≡◌ {A = ℕ} 0 1 = cc in omega arith)
+          no_limit = ⊎_elim (λ f. f within) (λ e. let z : true ≡ false = sym p.has_room ∙ e in cc)
 
           pub repeat_least : ListedBefore before row → Least (RowFault room before row) Repeat
           repeat_least l = record { here = l; none_smaller = smaller }

@@ -56,15 +56,15 @@ fits_free (word z ∷ ss) (f ∷ fs) e h = (h.0, fits_free ss fs e h.1)
 pub written_all_free : (ss : List Slot) → words_free ss ≡ true → AllByRecursion InRange ss → AllByRecursion Free (map written ss)
 written_all_free [] e h = tt
 written_all_free (literal w ∷ ss) e h = let p = and_parts (free_test w) (words_free ss) e in (free_by_test w p.0, written_all_free ss p.1 h.1)
-written_all_free (number n ∷ ss) e h = (written_free (number n) h.0 (λ bs same. let z : ◌≡◌ {A = ℕ} 0 1 = cc in absurd (omega arith)), written_all_free ss e h.1)
-written_all_free (word z ∷ ss) e h = (written_free (word z) h.0 (λ bs same. let z : ◌≡◌ {A = ℕ} 0 1 = cc in absurd (omega arith)), written_all_free ss e h.1)
+written_all_free (number n ∷ ss) e h = (written_free (number n) h.0 (λ bs same. cc), written_all_free ss e h.1)
+written_all_free (word z ∷ ss) e h = (written_free (word z) h.0 (λ bs same. cc), written_all_free ss e h.1)
 
 -- the printing of slots whose numbers are in range fits them
 pub written_fits : (ss : List Slot) → AllByRecursion InRange ss → Fits ss (map written ss)
 written_fits [] h = tt
 written_fits (literal w ∷ ss) h = (refl, written_fits ss h.1)
-written_fits (number n ∷ ss) h = (written_free (number n) h.0 (λ bs same. let z : ◌≡◌ {A = ℕ} 0 1 = cc in absurd (omega arith)), written_fits ss h.1)
-written_fits (word z ∷ ss) h = (written_free (word z) h.0 (λ bs same. let z : ◌≡◌ {A = ℕ} 0 1 = cc in absurd (omega arith)), written_fits ss h.1)
+written_fits (number n ∷ ss) h = (written_free (number n) h.0 (λ bs same. cc), written_fits ss h.1)
+written_fits (word z ∷ ss) h = (written_free (word z) h.0 (λ bs same. cc), written_fits ss h.1)
 
 -- free fields that are parted by commas have no line feed
 pub commas_lack : (fs : List (List ℕ)) → AllByRecursion Free fs → Lacks 10 (commas fs)

@@ -16,7 +16,7 @@ use Rattle.std.proofs.lemmas.List.Recursion.{is_count_by}
 use Rattle.std.specs.List.{count_by, position, position_from}
 use Rattle.text.specs.Reading.{in_front, cut, number_of, word_of}
 use Rattle.text.specs.Slots.{Lacks}
-use Rattle.text.proofs.Laws.{cut_some, none_some, number_is, word_is}
+use Rattle.text.proofs.Laws.{cut_some, number_is, word_is}
 
 -- a list is what stands before a place, the byte there, and what stands after it
 pub parts_at : (bs : List ℕ) (i b : ℕ) → i < length bs → get_or bs i 0 ≡ b → bs ≡ take (i - 0) bs ++ (b ∷ take (length bs - (i + 1)) (drop (i + 1) bs))
@@ -44,7 +44,7 @@ pub lacks_unplaced : (bs : List ℕ) (b : ℕ) → position (λ x. eqb x b) bs �
 lacks_unplaced bs b none = passed 0 bs (sym (position_from-zero (λ x. eqb x b) bs) ∙ none)
   where
     here : (x i : ℕ) (xs : List ℕ) (t : Bool) → eqb x b ≡ t → cond t (Some i) (position_from (λ y. eqb y b) (i + 1) xs) ≡ None → (x ≡ b → ⊥) × (position_from (λ y. eqb y b) (i + 1) xs ≡ None)
-    here x i xs true is e = absurd (none_some i (sym e))
+    here x i xs true is e = cc
     here x i xs false is e = (eqb-false x b is, e)
 
     passed : (i : ℕ) (xs : List ℕ) → position_from (λ y. eqb y b) i xs ≡ None → Lacks b xs
@@ -133,7 +133,7 @@ pub number_at_limit : (limit : ℕ) (bs : List ℕ) (r : Option ℕ) → ReadsUp
 number_at_limit limit bs r h e = let P : ℕ → Type 0 = λ l. ReadsUpTo l bs r in number_is bs r (subst P e h)
 
 pub none_up_to : (limit : ℕ) (bs : List ℕ) (r : Option ℕ) → limit < 2 ^ 32 → r ≡ None → ((n : ℕ) → n < 10 ^ 10 → decimal n ≡ bs → ⊥) → ReadsUpTo limit bs r
-none_up_to limit bs (Some v) low e h = absurd (none_some v (sym e))
+none_up_to limit bs (Some v) low e h = cc
 none_up_to limit bs None low e h = λ n k. h n (omega arith)
 
 pub larger_up_to : (limit v : ℕ) (bs : List ℕ) → limit < v → v < 10 ^ 10 → decimal v ≡ bs → ReadsUpTo limit bs None
@@ -144,7 +144,7 @@ abbrev pub ReadsWord : List ℕ → Option ℤ → Type 0
 ReadsWord bs r = MatchOption r ((z : ℤ) → SFits w32 z → signed_decimal z ≡ bs → ⊥) (λ z. SFits w32 z × (signed_decimal z ≡ bs))
 
 pub no_word : (bs : List ℕ) (r : Option ℤ) → r ≡ None → ReadsWord bs None → (r ≡ word_of bs) × ReadsWord bs r
-no_word bs (Some z) e h = absurd (none_some z (sym e))
+no_word bs (Some z) e h = cc
 no_word bs None e h = (word_is bs None h, h)
 
 -- bytes that begin with no minus
