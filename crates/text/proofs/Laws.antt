@@ -172,10 +172,6 @@ found_here : {K : Type 0} (t : Bool) (k x : K) (others : Option K) → cond t (S
 found_here true k x others e = inl (refl, cc)
 found_here false k x others e = inr e
 
-none_here : {K : Type 0} (t : Bool) (k : K) (others : Option K) → cond t (Some k) others ≡ None → (t ≡ false) × (others ≡ None)
-none_here true k others e = cc
-none_here false k others e = (refl, e)
-
 -- the keyword that is found is spelled by the bytes
 pub keyword_found : {K : Type 0} (spelled : K → List ℕ) (table : List K) (bs : List ℕ) (k : K) → keyword_of spelled table bs ≡ Some k → spelled k ≡ bs
 keyword_found spelled [] bs k e = cc
