@@ -139,7 +139,7 @@ global_types all (GlobalRow n t x ∷ rows) = listed_type all t ∷ global_types
 global_types all (TermRow n f ∷ rows) = global_types all rows
 
 none_such : {X : Type 0} {x : X} → ◌≡◌ {A = Option X} None (Some x) → ⊥
-none_such e = let z : ◌≡◌ {A = ℕ} 0 1 = cc in omega arith
+none_such e = cc
 
 getD_nth : (ts : List Tree) (n : ℕ) (θ : Tree) → slice_get ts n ≡ Some θ → get_or ts n unit_type ≡ θ
 getD_nth [] n θ e = absurd (none_such e)

@@ -150,8 +150,7 @@ module _ (G : Game) where
   not_both : (K : List Pending) (l : ℕ) (μ : Memory) (P : List ℕ) (a b : Pass) (q r : Position) → CallStep K l μ P a q → AnswerStep K l μ P b r → first_moves a ≡ first_moves b → ⊥
   not_both K l μ P a b q r c d e =
       let is : first_moves (host_call c.0 c.4) ≡ first_moves (host_answer d.0 d.4) = ap first_moves (sym c.8) ∙ e ∙ ap first_moves d.10 in
-      let z : ◌≡◌ {A = ℕ} 0 1 = cc in
-      omega arith
+      cc
 
   same_step : (K : List Pending) (l : ℕ) (μ : Memory) (P : List ℕ) (a b : Pass) (q r : Position) → HostStep K l μ P a q → HostStep K l μ P b r → first_moves a ≡ first_moves b → (a ≡ b) × (q ≡ r)
   same_step K l μ P a b q r (calling c) (calling d) e = same_call K l μ P a b q r c d e
@@ -189,8 +188,7 @@ module _ (G : Game) where
   pub inside_no_pass : (p q r : Position) (a : Pass) → G ⊢ p ─ none ⟹ q → G ⊢ p ─ some a ⟹ r → ⊥
   inside_no_pass (library_runs K M μ P) q r a h k =
       let s : goes_on q ≡ hands a r = sym (step_next G (library_runs K M μ P) q none h) ∙ step_next G (library_runs K M μ P) r (some a) k in
-      let z : ◌≡◌ {A = ℕ} 0 1 = cc in
-      omega arith
+      cc
   inside_no_pass (host_turn K l μ P) q r a h k = elim h [ ]
 
   -- what is over goes on neither inside nor by a pass of the library
@@ -204,8 +202,8 @@ module _ (G : Game) where
 
   pub ended_no_inside : (p q : Position) (t : ℕ) (e : Ending) (s : ℕ) → Ends G p t e s → t < G.bounds.steps → G ⊢ p ─ none ⟹ q → ⊥
   ended_no_inside p q t e s (play.out_of_steps d) lt h = omega arith
-  ended_no_inside p q t e s (play.fails _ f) lt h = let x = fails_over p (goes_on q) f (step_next G p q none h) in let z : ◌≡◌ {A = ℕ} 0 1 = cc in omega arith
-  ended_no_inside p q t e s (play.too_deep _ f) lt h = let x = deep_over p (goes_on q) f (step_next G p q none h) in let z : ◌≡◌ {A = ℕ} 0 1 = cc in omega arith
+  ended_no_inside p q t e s (play.fails _ f) lt h = let x = fails_over p (goes_on q) f (step_next G p q none h) in cc
+  ended_no_inside p q t e s (play.too_deep _ f) lt h = let x = deep_over p (goes_on q) f (step_next G p q none h) in cc
   ended_no_inside p q t e s (play.hands_over _) lt h = elim h [ ]
 
   -- a pass at the host's turn makes a host move
@@ -215,14 +213,13 @@ module _ (G : Game) where
       let i : c.0 ≡ a = (let d = c.1 in cc) in
       let v = one_move K l μ P c.0 q c.2 in
       let all : [] ≡ v.0 ∷ host_moves x = none_made ∙ moves_first a x ∙ ap (λ y. first_moves y ++ host_moves x) (sym i) ∙ ap (λ y. y ++ host_moves x) v.1 in
-      let z : ◌≡◌ {A = ℕ} 0 1 = cc in
-      omega arith
+      cc
 
   -- from where a play ends only a host move leads on
   ended_pass : (p q : Position) (t : ℕ) (e : Ending) (s : ℕ) (a : Pass) (x : List Pass) → Ends G p t e s → t < G.bounds.steps → G ⊢ p ─ some a ⟹ q → [] ≡ host_moves (a ∷ x) → ⊥
   ended_pass p q t e s a x (play.out_of_steps d) lt h none_made = omega arith
-  ended_pass p q t e s a x (play.fails _ f) lt h none_made = let y = fails_over p (hands a q) f (step_next G p q (some a) h) in let z : ◌≡◌ {A = ℕ} 0 1 = cc in omega arith
-  ended_pass p q t e s a x (play.too_deep _ f) lt h none_made = let y = deep_over p (hands a q) f (step_next G p q (some a) h) in let z : ◌≡◌ {A = ℕ} 0 1 = cc in omega arith
+  ended_pass p q t e s a x (play.fails _ f) lt h none_made = let y = fails_over p (hands a q) f (step_next G p q (some a) h) in cc
+  ended_pass p q t e s a x (play.too_deep _ f) lt h none_made = let y = deep_over p (hands a q) f (step_next G p q (some a) h) in cc
   ended_pass p q t e s a x (play.hands_over {K} {l} {t = u} {μ} {P} _) lt h none_made = pass_moves K l μ P q a x h none_made
 
   -- a play ends in one way
@@ -234,12 +231,12 @@ module _ (G : Game) where
   ends_same p t e e' s s' (play.fails lt f) (play.out_of_steps d) = absurd (omega arith)
   ends_same p t e e' s s' (play.fails lt f) (play.fails lt' f') = (refl, refl)
   ends_same (library_runs K M μ P) t e e' s s' (play.fails lt f) (play.too_deep lt' f') =
-      let y = deep_over (library_runs K M μ P) fails f' (fails_next G (library_runs K M μ P) f) in let z : ◌≡◌ {A = ℕ} 0 1 = cc in absurd (omega arith)
+      let y = deep_over (library_runs K M μ P) fails f' (fails_next G (library_runs K M μ P) f) in cc
   ends_same (host_turn K l μ P) t e e' s s' (play.fails lt f) (play.too_deep lt' f') = elim f [ ]
   ends_same p t e e' s s' (play.fails lt f) (play.hands_over lt') = elim f [ ]
   ends_same p t e e' s s' (play.too_deep lt f) (play.out_of_steps d) = absurd (omega arith)
   ends_same (library_runs K M μ P) t e e' s s' (play.too_deep lt f) (play.fails lt' f') =
-      let y = deep_over (library_runs K M μ P) fails f (fails_next G (library_runs K M μ P) f') in let z : ◌≡◌ {A = ℕ} 0 1 = cc in absurd (omega arith)
+      let y = deep_over (library_runs K M μ P) fails f (fails_next G (library_runs K M μ P) f') in cc
   ends_same (host_turn K l μ P) t e e' s s' (play.too_deep lt f) (play.fails lt' f') = elim f [ ]
   ends_same p t e e' s s' (play.too_deep lt f) (play.too_deep lt' f') = (refl, refl)
   ends_same p t e e' s s' (play.too_deep lt f) (play.hands_over lt') = elim f [ ]

@@ -50,8 +50,8 @@ public_distinct m (TermRow k f ∷ rows) a b s e = public_distinct m rows a b s 
 
 -- a number in a list stands there
 or_true : (a b : Bool) → a || b ≡ false → (a ≡ true → ⊥) × (b ≡ false)
-or_true true b e = absurd (let z : ◌≡◌ {A = ℕ} 0 1 = cc in omega arith)
-or_true false b e = ((λ d. let z : ◌≡◌ {A = ℕ} 0 1 = cc in omega arith), e)
+or_true true b e = cc
+or_true false b e = ((λ d. cc), e)
 
 absent : (m : ℕ) (P : List ℕ) → stands m P ≡ false → Memᴰ m P → ⊥
 absent m [] e i = Memᴰ.not-nil i
@@ -116,7 +116,7 @@ module _ (G : Game) where
     words_apart vs ws (order.agree {vs = a} {ws = b} d h) same = words_apart a b h (cc)
 
     pub ahead_apart : (P : List ℕ) (m n : Move) → Distinct P → Ahead list P m n → m ≡ n → ⊥
-    ahead_apart P m n x order.call_first e = let z : ◌≡◌ {A = ℕ} 0 1 = cc in omega arith
+    ahead_apart P m n x order.call_first e = cc
     ahead_apart P m n x (order.shown_first {m = a} {n = b} s) e = x a b s (cc)
     ahead_apart P m n x (order.called_with {vs = vs} {ws = ws} d h) e = words_apart vs ws h (cc)
     ahead_apart P m n x (order.answered_with {vs = vs} {ws = ws} d h) e = words_apart vs ws h (cc)

@@ -74,13 +74,13 @@ module _ (G : Game) where
       rw (a, b, c) f
 
   cut_no_turn : cut_by_steps ≡ turn → ⊥
-  cut_no_turn e = let z : ◌≡◌ {A = ℕ} 0 1 = cc in omega arith
+  cut_no_turn e = cc
 
   failed_no_turn : failed ≡ turn → ⊥
-  failed_no_turn e = let z : ◌≡◌ {A = ℕ} 0 1 = cc in omega arith
+  failed_no_turn e = cc
 
   deep_no_turn : cut_by_depth ≡ turn → ⊥
-  deep_no_turn e = let z : ◌≡◌ {A = ℕ} 0 1 = cc in omega arith
+  deep_no_turn e = cc
 
   module _ (list : WordList) (law : Listed G.meaning list) where
     -- a play that ends here is listed

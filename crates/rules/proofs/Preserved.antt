@@ -39,7 +39,7 @@ at_last [] x = refl
 at_last (y ∷ xs) x = at_last xs x
 
 at_more : {X : Type 0} (xs ys : List X) (n : ℕ) (x : X) → at xs n ≡ some x → at (xs ++ ys) n ≡ some x
-at_more [] ys n x e = let z : ◌≡◌ {A = ℕ} 0 1 = cc in absurd (omega arith)
+at_more [] ys n x e = cc
 at_more (y ∷ xs) ys zero x e = e
 at_more (y ∷ xs) ys (suc n) x e = at_more xs ys n x e
 
@@ -71,13 +71,13 @@ module _ (V : ℕ → Tree) (Γ : List Tree) (A : Meaning) where
   entries_length Σ (e ∷ es) (θ ∷ θs) h = ap suc (entries_length Σ es θs h.1)
 
   entry_at : (Σ : List Tree) (es : List Entry) (θs : List Tree) (m : ℕ) (e : Entry) → EntriesOk Σ es θs → at es m ≡ some e → (θ : Tree) × (at θs m ≡ some θ) × EntryOk Σ e θ
-  entry_at Σ [] θs m e h d = let z : ◌≡◌ {A = ℕ} 0 1 = cc in absurd (omega arith)
+  entry_at Σ [] θs m e h d = cc
   entry_at Σ (f ∷ es) [] m e h d = absurd h
   entry_at Σ (f ∷ es) (θ ∷ θs) zero e h d = let same : f ≡ e = cc in (θ, refl, subst (λ (x : Entry). EntryOk Σ x θ) same h.0)
   entry_at Σ (f ∷ es) (θ ∷ θs) (suc m) e h d = entry_at Σ es θs m e h.1 d
 
   type_at : (Σ : List Tree) (es : List Entry) (θs : List Tree) (m : ℕ) (θ : Tree) → EntriesOk Σ es θs → at θs m ≡ some θ → (e : Entry) × (at es m ≡ some e) × EntryOk Σ e θ
-  type_at Σ es [] m θ h d = let z : ◌≡◌ {A = ℕ} 0 1 = cc in absurd (omega arith)
+  type_at Σ es [] m θ h d = cc
   type_at Σ [] (ρ ∷ θs) m θ h d = absurd h
   type_at Σ (e ∷ es) (ρ ∷ θs) zero θ h d = let same : ρ ≡ θ = cc in (e, refl, subst (λ (x : Tree). EntryOk Σ e x) same h.0)
   type_at Σ (e ∷ es) (ρ ∷ θs) (suc m) θ h d = type_at Σ es θs m θ h.1 d
@@ -122,13 +122,13 @@ module _ (V : ℕ → Tree) (Γ : List Tree) (A : Meaning) where
   new_type Σ es θ h = subst (λ (n : ℕ). at (Σ ++ (θ ∷ [])) n ≡ some θ) (sym (entries_length Σ es Σ h)) (at_last Σ θ)
 
   global_at : (Σ : List Tree) (vs : List Value) (θs : List Tree) (r : ℕ) (θ : Tree) → GlobalsOk Σ vs θs → at θs r ≡ some θ → (v : Value) × (at vs r ≡ some v) × Typed V Γ A Σ [] ⌊ v ⌋ θ
-  global_at Σ vs [] r θ h d = let z : ◌≡◌ {A = ℕ} 0 1 = cc in absurd (omega arith)
+  global_at Σ vs [] r θ h d = cc
   global_at Σ [] (ρ ∷ θs) r θ h d = absurd h
   global_at Σ (v ∷ vs) (ρ ∷ θs) zero θ h d = let same : ρ ≡ θ = cc in (v, refl, subst (λ (x : Tree). Typed V Γ A Σ [] ⌊ v ⌋ x) same h.0)
   global_at Σ (v ∷ vs) (ρ ∷ θs) (suc r) θ h d = global_at Σ vs θs r θ h.1 d
 
   global_set : (Σ : List Tree) (vs : List Value) (θs : List Tree) (r : ℕ) (θ : Tree) (v : Value) → GlobalsOk Σ vs θs → at θs r ≡ some θ → Typed V Γ A Σ [] ⌊ v ⌋ θ → GlobalsOk Σ (set vs r v) θs
-  global_set Σ vs [] r θ v h d k = let z : ◌≡◌ {A = ℕ} 0 1 = cc in absurd (omega arith)
+  global_set Σ vs [] r θ v h d k = cc
   global_set Σ [] (ρ ∷ θs) r θ v h d k = absurd h
   global_set Σ (w ∷ vs) (ρ ∷ θs) zero θ v h d k = let same : ρ ≡ θ = cc in (subst (λ (x : Tree). Typed V Γ A Σ [] ⌊ v ⌋ x) (sym same) k, h.1)
   global_set Σ (w ∷ vs) (ρ ∷ θs) (suc r) θ v h d k = (h.0, global_set Σ vs θs r θ v h.1 d k)
@@ -284,24 +284,24 @@ module _ (G : Game) (V : ℕ → Tree) (Γ : List Tree) (closed : Closed G.meani
   no_stuck_answer : (K : List Pending) (Σ : List Tree) (v : Value) (μ : Memory) (P : List ℕ) → PendingOk V Γ A true Σ K → answering K v μ P ≡ no_step → ⊥
   no_stuck_answer [] Σ v μ P h e = h
   no_stuck_answer (library_waits m E ∷ K) Σ v μ P h e = h
-  no_stuck_answer (host_waits m l ∷ K) Σ v μ P h e = let z : ◌≡◌ {A = ℕ} 0 1 = cc in omega arith
+  no_stuck_answer (host_waits m l ∷ K) Σ v μ P h e = cc
 
   bounded_some : (b : Bool) (q : Position) → bounded b q ≡ no_step → ⊥
-  bounded_some true q e = let z : ◌≡◌ {A = ℕ} 0 1 = cc in omega arith
-  bounded_some false q e = let z : ◌≡◌ {A = ℕ} 0 1 = cc in omega arith
+  bounded_some true q e = cc
+  bounded_some false q e = cc
 
   module _ (K : List Pending) (E : Context) (μ : Memory) (P : List ℕ) where
     reading_some : (o : Option Value) (v : Value) → o ≡ some v → continued G K E (reading o μ) μ P ≡ no_step → ⊥
-    reading_some none v d e = let z : ◌≡◌ {A = ℕ} 0 1 = cc in omega arith
+    reading_some none v d e = cc
     reading_some (some w) v d e = bounded_some _ _ e
 
     asserting_some : (b : Bool) → continued G K E (asserting b μ) μ P ≡ no_step → ⊥
-    asserting_some true e = let z : ◌≡◌ {A = ℕ} 0 1 = cc in omega arith
+    asserting_some true e = cc
     asserting_some false e = bounded_some _ _ e
 
     calling_some : (o : Option Entry) (m : ℕ) (v : Value) (x : Entry) → o ≡ some x → continued G K E (calling o m v μ) μ P ≡ no_step → ⊥
-    calling_some none m v x d e = let z : ◌≡◌ {A = ℕ} 0 1 = cc in omega arith
-    calling_some (some (host_name θ θ')) m v x d e = let z : ◌≡◌ {A = ℕ} 0 1 = cc in omega arith
+    calling_some none m v x d e = cc
+    calling_some (some (host_name θ θ')) m v x d e = cc
     calling_some (some (library_name y θ M)) m v x d e = bounded_some _ _ e
 
     redex_some : (Σ : List Tree) (ρ : Tree) (r : Redex) → MemoryOk V Γ A Σ μ → Typed V Γ A Σ [] ⌈ r ⌉ ρ → continued G K E (contract A r μ) μ P ≡ no_step → ⊥

@@ -58,10 +58,10 @@ same_signed v w h k e =
     cc
 
 no_literal : (n : ℕ) (bs : List ℕ) → Slots.number n ≡ Slots.literal bs → Free bs
-no_literal n bs e = let z : ◌≡◌ {A = ℕ} 0 1 = cc in absurd (omega arith)
+no_literal n bs e = cc
 
 word_no_literal : (w : ℤ) (bs : List ℕ) → Slots.word w ≡ Slots.literal bs → Free bs
-word_no_literal w bs e = let z : ◌≡◌ {A = ℕ} 0 1 = cc in absurd (omega arith)
+word_no_literal w bs e = cc
 
 -- a name's field has no comma and no line feed
 name_free : (n : ℕ) → n ≤ 65535 → Free (name_field n)
@@ -121,7 +121,7 @@ module _ (A : Meaning) (closed : Closed A) where
       (h.0 ∙ sym k.0, h.1 ∙ sym k.1, (cc))
 
 at_low : {X : Type 0} (xs : List X) (n : ℕ) (x : X) → at xs n ≡ some x → n < length xs
-at_low [] n x e = let z : ◌≡◌ {A = ℕ} 0 1 = cc in absurd (omega arith)
+at_low [] n x e = cc
 at_low (y ∷ xs) zero x e = omega arith
 at_low (y ∷ xs) (suc n) x e = let h = at_low xs n x e in omega arith
 

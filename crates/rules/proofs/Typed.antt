@@ -178,26 +178,26 @@ module _ (V : ℕ → Tree) (Γ : List Tree) (A : Meaning) where
 
   module _ (Σ : List Tree) (fs : Functions Σ) where
     name_no_int : (m : ℕ) → at Σ m ≡ some int_type → ⊥
-    name_no_int m h = let x = fs m int_type h in let e = x.2 in let z : ◌≡◌ {A = ℕ} 0 1 = cc in omega arith
+    name_no_int m h = let x = fs m int_type h in let e = x.2 in cc
 
     name_no_pair : (m : ℕ) (ρ σ : Tree) → at Σ m ≡ some (pair_type ρ σ) → ⊥
-    name_no_pair m ρ σ h = let x = fs m (pair_type ρ σ) h in let e = x.2 in let z : ◌≡◌ {A = ℕ} 0 1 = cc in omega arith
+    name_no_pair m ρ σ h = let x = fs m (pair_type ρ σ) h in let e = x.2 in cc
 
     on_word_fine : (θ : Tree) (k : ℤ → Parts) (v : Value) → Typed Σ [] ⌊ v ⌋ int_type → ((i : ℤ) → Fine Σ θ (k i)) → Fine Σ θ (on_word k v)
-    on_word_fine θ k unit h g = let z : ◌≡◌ {A = ℕ} 0 1 = cc in absurd (omega arith)
+    on_word_fine θ k unit h g = cc
     on_word_fine θ k (word i) h g = g i
     on_word_fine θ k (name m) h g = absurd (name_no_int m h)
-    on_word_fine θ k (pair v w) h g = let e = h.2 in let z : ◌≡◌ {A = ℕ} 0 1 = cc in absurd (omega arith)
+    on_word_fine θ k (pair v w) h g = let e = h.2 in cc
 
     on_name_fine : (ρ σ θ : Tree) (k : ℕ → Parts) (v : Value) → Typed Σ [] ⌊ v ⌋ (function_type ρ σ) → ((m : ℕ) → Fine Σ θ (k m)) → Fine Σ θ (on_name k v)
-    on_name_fine ρ σ θ k unit h g = let z : ◌≡◌ {A = ℕ} 0 1 = cc in absurd (omega arith)
-    on_name_fine ρ σ θ k (word i) h g = let e = h.0 in let z : ◌≡◌ {A = ℕ} 0 1 = cc in absurd (omega arith)
+    on_name_fine ρ σ θ k unit h g = cc
+    on_name_fine ρ σ θ k (word i) h g = let e = h.0 in cc
     on_name_fine ρ σ θ k (name m) h g = g m
-    on_name_fine ρ σ θ k (pair v w) h g = let e = h.2 in let z : ◌≡◌ {A = ℕ} 0 1 = cc in absurd (omega arith)
+    on_name_fine ρ σ θ k (pair v w) h g = let e = h.2 in cc
 
     on_pair_fine : (ρ σ θ : Tree) (k : Value → Value → Parts) (v : Value) → Typed Σ [] ⌊ v ⌋ (pair_type ρ σ) → ((a b : Value) → Fine Σ θ (k a b)) → Fine Σ θ (on_pair k v)
-    on_pair_fine ρ σ θ k unit h g = let z : ◌≡◌ {A = ℕ} 0 1 = cc in absurd (omega arith)
-    on_pair_fine ρ σ θ k (word i) h g = let e = h.0 in let z : ◌≡◌ {A = ℕ} 0 1 = cc in absurd (omega arith)
+    on_pair_fine ρ σ θ k unit h g = cc
+    on_pair_fine ρ σ θ k (word i) h g = let e = h.0 in cc
     on_pair_fine ρ σ θ k (name m) h g = absurd (name_no_pair m ρ σ h)
     on_pair_fine ρ σ θ k (pair v w) h g = g v w
 

@@ -79,7 +79,7 @@ module _ (type : ℕ → Tree) where
       × (n : ℕ) × RefersBack seen (TermRow n form) × (count Terms seen ≡ length pre)
 
   stands : (b : List Row) (before : List Term) (rows : List Row) (k : ℕ) (form : TermForm) → EachGood b rows → length before ≡ count Terms b → term_of (slice_get (section_rows Terms rows) k) ≡ Some form → Stands before rows k form
-  stands b before [] k form good len e = let z : ◌≡◌ {A = ℕ} 0 1 = cc in absurd (omega arith)
+  stands b before [] k form good len e = cc
   stands b before (TypeRow n f ∷ rows) k form good len e = stands (b ++ (TypeRow n f ∷ [])) before rows k form good.1 (omega (arith, count_append Terms b (TypeRow n f))) e
   stands b before (VariableRow n t ∷ rows) k form good len e = stands (b ++ (VariableRow n t ∷ [])) before rows k form good.1 (omega (arith, count_append Terms b (VariableRow n t))) e
   stands b before (MethodRow n f ∷ rows) k form good len e = stands (b ++ (MethodRow n f ∷ [])) before rows k form good.1 (omega (arith, count_append Terms b (MethodRow n f))) e
@@ -130,7 +130,7 @@ module _ (rows : List Row) (faultless : Faultless rows) where
     InScope Δ t = (x : ℕ) → Free rows x t → Memᴰ x Δ
 
     no_bound : (x : ℕ) → ◌≡◌ {A = Option ℕ} None (Some x) → ⊥
-    no_bound x e = let z : ◌≡◌ {A = ℕ} 0 1 = cc in omega arith
+    no_bound x e = cc
 
     plain : (Δ : List ℕ) (t : ℕ) (form : TermForm) (k a : ℕ) → TermIs rows t form → slice_get (parts form) k ≡ Some (a, None) → InScope Δ t → InScope Δ a
     plain Δ t form k a is e s x f = s x (free.inside form k a None is e (no_bound x) f)
