@@ -3,6 +3,7 @@ use Rattle.std.proofs.Common.{◌≡◌, ℕ, zero, suc, ◌+◌, ◌<◌, ◌�
 use mathlib.Core.List.{Memᴰ}
 use mathlib.Core.Option.{some}
 use Rattle.std.specs.List.{slice_get}
+use Rattle.std.proofs.lemmas.Option.{get_or_from_slice_get}
 use Rattle.std.proofs.str.Laws.{order}
 use Rattle.arithmetic.specs.Meaning.{Meaning}
 use Rattle.faults.specs.declared.TextFault.TheVariants.{Limit}
@@ -17,6 +18,7 @@ use Rattle.rows.specs.declared.forms.Section.TheVariants.{Variables, Methods, Gl
 use Rattle.rows.specs.Sections.{section, limit, count}
 use Rattle.rows.specs.Faults.{NoneOf, RowFault, WithinLimits, row_leaves}
 use Rattle.rows.specs.Types.{Tree, leaves, tree, with_row, types_after, types, unit as unit_type, int as int_type, fun as function_type}
+use Rattle.rows.proofs.Admits.{types_push}
 use Rattle.library.specs.Listing.{section_rows, method_type, method_type_of, global_type_of, variable_type_of}
 use Rattle.library.specs.Definitions.{ClosedFunction, MethodRule, GlobalRule}
 use Rattle.rules.specs.Terms.{Term, Value, word, name, ⟨⟩, lam, ⌊◌⌋}
@@ -60,10 +62,6 @@ tree_small ts UnitType h k = tt
 tree_small ts IntType h k = tt
 tree_small ts (PairType a b) h k = (k, h a, h b)
 tree_small ts (FunType a b) h k = (h a, h b)
-
-types_push : (ts : List Tree) (b : List Row) (r : Row) → types_after ts (b ++ (r ∷ [])) ≡ with_row (types_after ts b) r
-types_push ts [] r = refl
-types_push ts (x ∷ b) r = types_push (with_row ts x) b r
 
 types_small : (b : List Row) (ts : List Tree) (rows : List Row) → EachGood b rows → types_after [] b ≡ ts → AllSmall ts → AllSmall (types_after ts rows)
 types_small b ts [] good e h = h
@@ -138,16 +136,8 @@ global_types all (MethodRow n f ∷ rows) = global_types all rows
 global_types all (GlobalRow n t x ∷ rows) = listed_type all t ∷ global_types all rows
 global_types all (TermRow n f ∷ rows) = global_types all rows
 
-none_such : {X : Type 0} {x : X} → ◌≡◌ {A = Option X} None (Some x) → ⊥
-none_such e = cc
-
-getD_nth : (ts : List Tree) (n : ℕ) (θ : Tree) → slice_get ts n ≡ Some θ → get_or ts n unit_type ≡ θ
-getD_nth [] n θ e = absurd (none_such e)
-getD_nth (t ∷ ts) zero θ e = cc
-getD_nth (t ∷ ts) (suc n) θ e = getD_nth ts n θ e
-
 method_known : (all rows : List Row) (m k : ℕ) → method_type_of (slice_get (section_rows Methods rows) m) ≡ Some k → at (method_types all rows) m ≡ some (listed_type all k)
-method_known all [] m k e = absurd (none_such e)
+method_known all [] m k e = cc
 method_known all (TypeRow n f ∷ rows) m k e = method_known all rows m k e
 method_known all (VariableRow n t ∷ rows) m k e = method_known all rows m k e
 method_known all (MethodRow n f ∷ rows) zero k e = let same : method_type f ≡ k = cc in ap (λ x. some (listed_type all x)) same
@@ -156,7 +146,7 @@ method_known all (GlobalRow n t x ∷ rows) m k e = method_known all rows m k e
 method_known all (TermRow n f ∷ rows) m k e = method_known all rows m k e
 
 global_known : (all rows : List Row) (r k : ℕ) → global_type_of (slice_get (section_rows Globals rows) r) ≡ Some k → at (global_types all rows) r ≡ some (listed_type all k)
-global_known all [] r k e = absurd (none_such e)
+global_known all [] r k e = cc
 global_known all (TypeRow n f ∷ rows) r k e = global_known all rows r k e
 global_known all (VariableRow n t ∷ rows) r k e = global_known all rows r k e
 global_known all (MethodRow n f ∷ rows) r k e = global_known all rows r k e
@@ -165,7 +155,7 @@ global_known all (GlobalRow n t x ∷ rows) (suc r) k e = global_known all rows 
 global_known all (TermRow n f ∷ rows) r k e = global_known all rows r k e
 
 variable_known : (rows : List Row) (x k : ℕ) → variable_type_of (slice_get (section_rows Variables rows) x) ≡ Some k → get_or (variable_types rows) x 0 ≡ k
-variable_known [] x k e = absurd (none_such e)
+variable_known [] x k e = cc
 variable_known (TypeRow n f ∷ rows) x k e = variable_known rows x k e
 variable_known (VariableRow n t ∷ rows) zero k e = cc
 variable_known (VariableRow n t ∷ rows) (suc x) k e = variable_known rows x k e
@@ -192,13 +182,13 @@ module _ (rows : List Row) (A : Meaning) (mounted : Mounted rows) (lawful : Lawf
       let w = form_at rows mounted.faultless e (Lam c.variable c.body) c.lam in
       let typed : Typed V Γ A Σ [] (unfolded rows e) (function_type c.typed_as.argument c.typed_as.result) =
       tree_typed rows mounted.faultless Γ A Σ
-      (λ m θ h. method_known rows rows m h.number h.is ∙ ap some (getD_nth (types rows) h.number θ h.named))
-      (λ r θ h. global_known rows rows r h.number h.is ∙ ap some (getD_nth (types rows) h.number θ h.named))
-      (λ x θ h. sym (ap (listed_type rows) (variable_known rows x h.number h.is) ∙ getD_nth (types rows) h.number θ h.named))
+      (λ m θ h. method_known rows rows m h.number h.is ∙ ap some (get_or_from_slice_get (types rows) h.number θ unit_type h.named))
+      (λ r θ h. global_known rows rows r h.number h.is ∙ ap some (get_or_from_slice_get (types rows) h.number θ unit_type h.named))
+      (λ x θ h. sym (ap (listed_type rows) (variable_known rows x h.number h.is) ∙ get_or_from_slice_get (types rows) h.number θ unit_type h.named))
       lawful e _ c.typed [] (λ x f. absurd (c.closed x f))
       in
       let k = subst (λ (X : Term). Typed V Γ A Σ [] X (function_type c.typed_as.argument c.typed_as.result)) w.1 typed in
-      (c.variable, get_or w.0 c.body ⟨⟩, w.1, (k.1, getD_nth (types rows) t _ c.typed_as.named ∙ k.2, refl, k.3))
+      (c.variable, get_or w.0 c.body ⟨⟩, w.1, (k.1, get_or_from_slice_get (types rows) t _ unit_type c.typed_as.named ∙ k.2, refl, k.3))
 
   closed_entry : (t e : ℕ) → ClosedFunction rows t e → EntryOk V Γ A Σ (method_body (begins (unfolded rows e))) (listed_type rows t)
   closed_entry t e c =
@@ -209,7 +199,7 @@ module _ (rows : List Row) (A : Meaning) (mounted : Mounted rows) (lawful : Lawf
   function_entry θ a r e s = subst (λ (y : Tree). Small y → EntryOk V Γ A Σ (host_name (argument y) (result y)) y) (sym e) (λ k. (refl, k.0, k.1)) s
 
   method_ok : (f : MethodForm) → MethodRule rows f → EntryOk V Γ A Σ (method_entry rows f) (listed_type rows (method_type f))
-  method_ok (Abstract t) c = function_entry (listed_type rows t) c.argument c.result (getD_nth (types rows) t _ c.named) (listed_small t)
+  method_ok (Abstract t) c = function_entry (listed_type rows t) c.argument c.result (get_or_from_slice_get (types rows) t _ unit_type c.named) (listed_small t)
   method_ok (Public t e) c = closed_entry t e c
   method_ok (Private t e) c = closed_entry t e c
 
@@ -245,7 +235,7 @@ module _ (rows : List Row) (A : Meaning) (mounted : Mounted rows) (lawful : Lawf
   global_begun : (t e : ℕ) (μ : Memory) (done : List Tree) → GlobalRule rows t e → Begun μ done → Begun (with_beginning (begins (unfolded rows e)) μ) (done ++ (listed_type rows t ∷ []))
   global_begun t e μ done (inl c) b =
       let w = form_at rows mounted.faultless e (Num c.word) c.num in
-      subst (λ (X : Term). Begun (with_beginning (begins X) μ) (done ++ (listed_type rows t ∷ []))) (sym w.1) (word_begun μ done (listed_type rows t) c.word (getD_nth (types rows) t int_type c.int_type) (lawful e c.word c.num) b)
+      subst (λ (X : Term). Begun (with_beginning (begins X) μ) (done ++ (listed_type rows t ∷ []))) (sym w.1) (word_begun μ done (listed_type rows t) c.word (get_or_from_slice_get (types rows) t int_type unit_type c.int_type) (lawful e c.word c.num) b)
   global_begun t e μ done (inr c) b =
       let k = closed_tree t e c in
       subst (λ (X : Term). Begun (with_beginning (begins X) μ) (done ++ (listed_type rows t ∷ []))) (sym k.2) (function_begun μ done (listed_type rows t) (library_name k.0 (V k.0) k.1) k.3 b)

@@ -3,7 +3,8 @@ use Rattle.std.proofs.Common.{◌≡◌, ℕ, suc, ◌≤◌, Bool, true, false,
 use mathlib.Core.List.Memᴰ
 use mathlib.Core.List.{Memᴰ}
 use mathlib.Core.Option.{Option, none, some}
-use lib.ListN.{length-map}
+use Rattle.std.proofs.lemmas.Bool.{or_parts}
+use Rattle.std.proofs.lemmas.List.{length-map}
 use Rattle.arithmetic.specs.Meaning.{WordList, Listed}
 use Rattle.rows.specs.declared.forms.MethodForm.TheVariants.{Abstract, Public, Private}
 use Rattle.rows.specs.declared.forms.Row.{Row}
@@ -49,20 +50,16 @@ public_distinct m (GlobalRow k t x ∷ rows) a b s e = public_distinct m rows a 
 public_distinct m (TermRow k f ∷ rows) a b s e = public_distinct m rows a b s e
 
 -- a number in a list stands there
-or_true : (a b : Bool) → a || b ≡ false → (a ≡ true → ⊥) × (b ≡ false)
-or_true true b e = cc
-or_true false b e = ((λ d. cc), e)
-
 absent : (m : ℕ) (P : List ℕ) → stands m P ≡ false → Memᴰ m P → ⊥
 absent m [] e i = Memᴰ.not-nil i
-absent m (n ∷ P) e (Memᴰ.head d) = (or_true (eqb m n) (stands m P) e).0 (eq-eqb m n d)
-absent m (n ∷ P) e (Memᴰ.tail i) = absent m P (or_true (eqb m n) (stands m P) e).1 i
+absent m (n ∷ P) e (Memᴰ.head d) = let x = (or_parts (eqb m n) (stands m P) e).0 in let y = eq-eqb m n d in cc
+absent m (n ∷ P) e (Memᴰ.tail i) = absent m P (or_parts (eqb m n) (stands m P) e).1 i
 
 -- one number more behind a list that lacks it
 behind : (P : List ℕ) (k m n : ℕ) → StandsBefore m n (P ++ (k ∷ [])) → StandsBefore m n P ⊎ (Memᴰ m P × (n ≡ k))
 behind [] k m n (order.here d i) = absurd (Memᴰ.not-nil i)
 behind [] k m n (order.later s) = elim s [ ]
-behind (j ∷ P) k m n (order.here d i) = go (mathlib.Core.List.Memᴰ.append_cases P i)
+behind (j ∷ P) k m n (order.here d i) = go (Memᴰ.append_cases P i)
   where
     go : Memᴰ n P ⊎ Memᴰ n (k ∷ []) → StandsBefore m n (j ∷ P) ⊎ (Memᴰ m (j ∷ P) × (n ≡ k))
     go (inl x) = inl (order.here d x)

@@ -4,6 +4,7 @@ use mathlib.Core.Option.{some}
 use Rattle.std.specs.Fmt.{signed_decimal}
 use Rattle.std.specs.List.{AllByRecursion}
 use Rattle.std.proofs.ByRecursion.{All-append}
+use Rattle.std.proofs.lemmas.List.{append_cancel_left}
 use Rattle.text.specs.Slots
 use Rattle.text.specs.Slots.{Lacks, Free, commas, line_of}
 use Rattle.text.specs.Reading.{number_of, word_of}
@@ -57,15 +58,9 @@ same_signed v w h k e =
     let d : Some v ≡ Some w = sym (word_written v h) ∙ ap word_of e ∙ word_written w k in
     cc
 
-no_literal : (n : ℕ) (bs : List ℕ) → Slots.number n ≡ Slots.literal bs → Free bs
-no_literal n bs e = cc
-
-word_no_literal : (w : ℤ) (bs : List ℕ) → Slots.word w ≡ Slots.literal bs → Free bs
-word_no_literal w bs e = cc
-
 -- a name's field has no comma and no line feed
 name_free : (n : ℕ) → n ≤ 65535 → Free (name_field n)
-name_free n h = let d = written_free (Slots.number n) h (no_literal n) in (((λ e. omega arith), d.0), ((λ e. omega arith), d.1))
+name_free n h = let d = written_free (Slots.number n) h (λ bs e. cc) in (((λ e. omega arith), d.0), ((λ e. omega arith), d.1))
 
 grows : (A : Meaning) (θ : Tree) (R : List Entry) (v : Value) (R' : List Entry) → Says A θ R v R' → length R ≤ length R'
 grows A θ R v R' rule.says_unit = omega arith
@@ -80,7 +75,7 @@ module _ (A : Meaning) (closed : Closed A) where
   -- the leaves of a value that the host says have no comma and no line feed
   leaves_free : (θ : Tree) (R : List Entry) (v : Value) (R' : List Entry) → Says A θ R v R' → length R' ≤ 65535 → AllByRecursion Free (leaf_fields v)
   leaves_free θ R v R' rule.says_unit few = ((((λ e. omega arith), tt), ((λ e. omega arith), tt)), tt)
-  leaves_free θ R v R' (rule.says_word w h) few = (written_free (Slots.word w) (fits w h) (word_no_literal w), tt)
+  leaves_free θ R v R' (rule.says_word w h) few = (written_free (Slots.word w) (fits w h) (λ bs e. cc), tt)
   leaves_free θ R v R' (rule.says_pair {θ = ρ} {θ' = σ} {R' = R₁} {v = a} {w = b} h k) few =
       All-append Free (leaf_fields a) (leaf_fields b) (leaves_free ρ R a R₁ h (let x = grows A σ R₁ b R' k in omega arith)) (leaves_free σ R₁ b R' k few)
   leaves_free θ R v R' (rule.says_function {θ = ρ} {θ' = σ}) few = (name_free (length R) (omega (arith, length-append R (host_name ρ σ ∷ []))), tt)
@@ -134,17 +129,6 @@ call_free = omega arith
 ret_free : Free (codes "ret")
 ret_free = omega arith
 
--- equal lists of fields have equal fields
-fields_same : (f g h f' g' h' : List ℕ) (fs fs' : List (List ℕ)) → ◌≡◌ {A = List (List ℕ)} (f ∷ g ∷ h ∷ fs) (f' ∷ g' ∷ h' ∷ fs') → (f ≡ f') × (g ≡ g') × (h ≡ h') × (fs ≡ fs')
-fields_same f g h f' g' h' fs fs' e = ((cc), (cc), (cc), (cc))
-
-bytes_same : (b c : ℕ) (bs cs : List ℕ) → b ∷ bs ≡ c ∷ cs → (b ≡ c) × (bs ≡ cs)
-bytes_same b c bs cs e = ((cc), (cc))
-
-cancel_bytes : (xs ys zs : List ℕ) → xs ++ ys ≡ xs ++ zs → ys ≡ zs
-cancel_bytes [] ys zs e = e
-cancel_bytes (x ∷ xs) ys zs e = cancel_bytes xs ys zs (cc)
-
 module _ (G : Game) (closed : Closed G.meaning) where
   abbrev Few : Position → Type 0
   Few p = length (names_at p) ≤ 65535
@@ -166,42 +150,39 @@ module _ (G : Game) (closed : Closed G.meaning) where
     call_told a b q r x y few fq fr c d e =
         let lines : line_of (pass_fields (host_call c.0 c.4)) ++ x ≡ line_of (pass_fields (host_call d.0 d.4)) ++ y = ap (λ z. line_of (pass_fields z) ++ x) (sym c.8) ∙ e ∙ ap (λ z. line_of (pass_fields z) ++ y) d.8 in
         let told = line_tells (codes "H") (codes "H") (codes "call" ∷ name_field c.0 ∷ leaf_fields c.4) (codes "call" ∷ name_field d.0 ∷ leaf_fields d.4) x y (call_fields_free a q few fq c) (call_fields_free b r few fr d) lines in
-        let fields = fields_same (codes "H") (codes "call") (name_field c.0) (codes "H") (codes "call") (name_field d.0) (leaf_fields c.4) (leaf_fields d.4) told.0 in
-        let names = (bytes_same 109 109 (decimal c.0) (decimal d.0) fields.2).1 in
-        let leaves = fields.3 in
+        let fields = told.0 in
+        let names : decimal c.0 ≡ decimal d.0 = cc in
+        let leaves : leaf_fields c.4 ≡ leaf_fields d.4 = cc in
         let lc = at_low μ.names c.0 _ c.6 in
         let ld = at_low μ.names d.0 _ d.6 in
         let m : c.0 ≡ d.0 = same_decimal c.0 d.0 (omega arith) (omega arith) names in
-        let entry : some (library_name c.1 c.2 c.3) ≡ some (library_name d.1 d.2 d.3) = sym c.6 ∙ ap (λ n. at μ.names n) m ∙ d.6 in
         let θ : c.2 ≡ d.2 = cc in
         let says : Says G.meaning c.2 μ.names d.4 d.5 = subst (λ (z : Tree). Says G.meaning z μ.names d.4 d.5) (sym θ) d.7 in
         let v = leaves_tell G.meaning closed c.2 μ.names c.4 d.4 c.5 d.5 [] [] (said _ _ _ _ _ c.7) (said _ _ _ _ _ says) (sayable G.meaning closed _ _ _ _ c.7) (sayable G.meaning closed _ _ _ _ d.7) (ap (λ z. z ++ []) leaves) in
-        (c.8 ∙ ap (λ n. host_call n c.4) m ∙ ap (host_call d.0) v.0 ∙ sym d.8, told.1)
+        (let value = v.0 in cc, told.1)
 
     answer_told : (a b : Pass) (q r : Position) (x y : List ℕ) → Few (host_turn K l μ P) → Few q → Few r → AnswerStep G K l μ P a q → AnswerStep G K l μ P b r → line_of (pass_fields a) ++ x ≡ line_of (pass_fields b) ++ y → (a ≡ b) × (x ≡ y)
     answer_told a b q r x y few fq fr c d e =
         let lines : line_of (pass_fields (host_answer c.0 c.4)) ++ x ≡ line_of (pass_fields (host_answer d.0 d.4)) ++ y = ap (λ z. line_of (pass_fields z) ++ x) (sym c.10) ∙ e ∙ ap (λ z. line_of (pass_fields z) ++ y) d.10 in
         let told = line_tells (codes "H") (codes "H") (codes "ret" ∷ name_field c.0 ∷ leaf_fields c.4) (codes "ret" ∷ name_field d.0 ∷ leaf_fields d.4) x y (answer_fields_free a q few fq c) (answer_fields_free b r few fr d) lines in
-        let fields = fields_same (codes "H") (codes "ret") (name_field c.0) (codes "H") (codes "ret") (name_field d.0) (leaf_fields c.4) (leaf_fields d.4) told.0 in
-        let names = (bytes_same 109 109 (decimal c.0) (decimal d.0) fields.2).1 in
-        let leaves = fields.3 in
+        let fields = told.0 in
+        let names : decimal c.0 ≡ decimal d.0 = cc in
+        let leaves : leaf_fields c.4 ≡ leaf_fields d.4 = cc in
         let lc = at_low μ.names c.0 _ c.7 in
         let ld = at_low μ.names d.0 _ d.7 in
         let m : c.0 ≡ d.0 = same_decimal c.0 d.0 (omega arith) (omega arith) names in
-        let entry : some (host_name c.2 c.3) ≡ some (host_name d.2 d.3) = sym c.7 ∙ ap (λ n. at μ.names n) m ∙ d.7 in
         let θ : c.3 ≡ d.3 = cc in
         let says : Says G.meaning c.3 μ.names d.4 d.5 = subst (λ (z : Tree). Says G.meaning z μ.names d.4 d.5) (sym θ) d.8 in
         let v = leaves_tell G.meaning closed c.3 μ.names c.4 d.4 c.5 d.5 [] [] (said _ _ _ _ _ c.8) (said _ _ _ _ _ says) (sayable G.meaning closed _ _ _ _ c.8) (sayable G.meaning closed _ _ _ _ d.8) (ap (λ z. z ++ []) leaves) in
-        (c.10 ∙ ap (λ n. host_answer n c.4) m ∙ ap (host_answer d.0) v.0 ∙ sym d.10, told.1)
+        (let value = v.0 in cc, told.1)
 
     -- a call's line is not an answer's
     not_told : (a b : Pass) (q r : Position) (x y : List ℕ) → Few (host_turn K l μ P) → Few q → Few r → CallStep G K l μ P a q → AnswerStep G K l μ P b r → line_of (pass_fields a) ++ x ≡ line_of (pass_fields b) ++ y → ⊥
     not_told a b q r x y few fq fr c d e =
         let lines : line_of (pass_fields (host_call c.0 c.4)) ++ x ≡ line_of (pass_fields (host_answer d.0 d.4)) ++ y = ap (λ z. line_of (pass_fields z) ++ x) (sym c.8) ∙ e ∙ ap (λ z. line_of (pass_fields z) ++ y) d.10 in
         let told = line_tells (codes "H") (codes "H") (codes "call" ∷ name_field c.0 ∷ leaf_fields c.4) (codes "ret" ∷ name_field d.0 ∷ leaf_fields d.4) x y (call_fields_free a q few fq c) (answer_fields_free b r few fr d) lines in
-        let fields = fields_same (codes "H") (codes "call") (name_field c.0) (codes "H") (codes "ret") (name_field d.0) (leaf_fields c.4) (leaf_fields d.4) told.0 in
-        let letter : ◌≡◌ {A = ℕ} 99 114 = (bytes_same 99 114 (codes "all") (codes "et") fields.1).0 in
-        omega arith
+        let fields = told.0 in
+        cc
 
     host_told : (a b : Pass) (q r : Position) (x y : List ℕ) → Few (host_turn K l μ P) → Few q → Few r → HostStep G K l μ P a q → HostStep G K l μ P b r → line_of (pass_fields a) ++ x ≡ line_of (pass_fields b) ++ y → (a ≡ b) × (x ≡ y)
     host_told a b q r x y few fq fr (calling c) (calling d) e = call_told a b q r x y few fq fr c d e
@@ -214,7 +195,7 @@ module _ (G : Game) (closed : Closed G.meaning) where
   pass_told (library_runs K M μ P) q r a b x y few fq fr h k e =
       let s : hands a q ≡ hands b r = sym (step_next G (library_runs K M μ P) q (some a) h) ∙ step_next G (library_runs K M μ P) r (some b) k in
       let same : a ≡ b = cc in
-      (same, (cc), cancel_bytes (line_of (pass_fields a)) x y (e ∙ ap (λ z. line_of (pass_fields z) ++ y) (sym same)))
+      (same, (cc), append_cancel_left (line_of (pass_fields a)) x y (e ∙ ap (λ z. line_of (pass_fields z) ++ y) (sym same)))
   pass_told (host_turn K l μ P) q r a b x y few fq fr h k e =
       let c = host_step G (host_turn K l μ P) q (some a) h in
       let d = host_step G (host_turn K l μ P) r (some b) k in

@@ -3,7 +3,7 @@ use Rattle.std.proofs.Common.{◌≡◌, ℕ, zero, suc, ◌+◌, ◌<◌, ◌�
 use mathlib.Core.List.{Memᴰ}
 use borrow.Author.Tests.{eqb-false}
 use Rattle.std.specs.List.{slice_get, AllByRecursion}
-use Rattle.std.proofs.lemmas.List.{take-append-le, take_all, get_or_at}
+use Rattle.std.proofs.lemmas.List.{take-append-le, take_all, get_or_at, get_or_append_left}
 use Rattle.std.proofs.str.Laws.{order}
 use Rattle.arithmetic.specs.Meaning.{Meaning}
 use Rattle.faults.specs.declared.TextFault.TheVariants.{Reference}
@@ -92,25 +92,14 @@ module _ (type : ℕ → Tree) where
       let w = stands (b ++ (TermRow n f ∷ [])) (before ++ (formed type before f ∷ [])) rows k form good.1 (omega (arith, count_append Terms b (TermRow n f), length-append before (formed type before f ∷ []))) e in
       (w.0, w.1, w.2, w.3, omega (arith, w.4, length-append before (formed type before f ∷ [])), w.5, w.6, w.7)
 
-get_d_front : (xs ys : List Term) (n : ℕ) → n < length xs → get_or (xs ++ ys) n ⟨⟩ ≡ get_or xs n ⟨⟩
-get_d_front [] ys n h = absurd (omega arith)
-get_d_front (x ∷ xs) ys zero h = refl
-get_d_front (x ∷ xs) ys (suc n) h = get_d_front xs ys n (omega arith)
-
-getD_here : (xs : List Term) (x : Term) (ys : List Term) (n : ℕ) → n ≡ length xs → get_or (xs ++ (x ∷ ys)) n ⟨⟩ ≡ x
-getD_here [] x ys zero h = refl
-getD_here [] x ys (suc n) h = absurd (omega arith)
-getD_here (y ∷ xs) x ys zero h = absurd (omega arith)
-getD_here (y ∷ xs) x ys (suc n) h = getD_here xs x ys n (omega arith)
-
 module _ (rows : List Row) (faultless : Faultless rows) where
   -- a term's tree is formed over the trees of its parts, which stand before it
   pub form_at : (t : ℕ) (form : TermForm) → TermIs rows t form → (pre : List Term) × (unfolded rows t ≡ formed (variable_type rows) pre form) × ((a : ℕ) → a < length pre → get_or pre a ⟨⟩ ≡ unfolded rows a) × (n : ℕ) × (seen : List Row) × RefersBack seen (TermRow n form) × (count Terms seen ≡ length pre)
   form_at t form is =
       let w = stands (variable_type rows) [] [] rows t form (good_from [] rows faultless) refl is in (
         w.0,
-        ap (λ x. get_or x t ⟨⟩) w.3 ∙ getD_here w.0 (formed (variable_type rows) w.0 form) w.1 t (omega (arith, w.4)),
-        (λ a low. sym (ap (λ x. get_or x a ⟨⟩) w.3 ∙ get_d_front w.0 (formed (variable_type rows) w.0 form ∷ w.1) a low)),
+        ap (λ x. get_or x t ⟨⟩) w.3 ∙ get_or_at w.0 (formed (variable_type rows) w.0 form) w.1 ⟨⟩ t (omega (arith, w.4)),
+        (λ a low. sym (ap (λ x. get_or x a ⟨⟩) w.3 ∙ get_or_append_left w.0 (formed (variable_type rows) w.0 form ∷ w.1) ⟨⟩ a low)),
         w.5,
         w.2,
         w.6,
@@ -129,11 +118,8 @@ module _ (rows : List Row) (faultless : Faultless rows) where
     abbrev pub InScope : List ℕ → ℕ → Type 0
     InScope Δ t = (x : ℕ) → Free rows x t → Memᴰ x Δ
 
-    no_bound : (x : ℕ) → ◌≡◌ {A = Option ℕ} None (Some x) → ⊥
-    no_bound x e = cc
-
     plain : (Δ : List ℕ) (t : ℕ) (form : TermForm) (k a : ℕ) → TermIs rows t form → slice_get (parts form) k ≡ Some (a, None) → InScope Δ t → InScope Δ a
-    plain Δ t form k a is e s x f = s x (free.inside form k a None is e (no_bound x) f)
+    plain Δ t form k a is e s x f = s x (free.inside form k a None is e (λ same. cc) f)
 
     bound : (Δ : List ℕ) (t : ℕ) (form : TermForm) (k a y : ℕ) → TermIs rows t form → slice_get (parts form) k ≡ Some (a, Some y) → InScope Δ t → InScope (y ∷ Δ) a
     bound Δ t form k a y is e s x f = go (eqb x y) refl
