@@ -30,7 +30,8 @@ use Rattle.rules.specs.Laws.{PlayableIsNeverStuck, PlayableHasFewNames}
 use Rattle.rules.proofs.Typed.{Typed, Grows}
 use Rattle.rules.proofs.Unfolded.{EachGood, good_from, count_append, form_at, tree_typed}
 use Rattle.rules.proofs.Counts.{within_steps}
-use Rattle.rules.proofs.Preserved.{Small, EntryOk, EntriesOk, GlobalsOk, PositionOk, entry_grow, globals_grow, grows_push, with_one, new_type, run_ok, typed_goes}
+use Rattle.rules.proofs.Places.{push}
+use Rattle.rules.proofs.Preserved.{Small, EntryOk, EntriesOk, GlobalOk, GlobalsOk, PositionOk, entry_grow, globals_grow, grows_push, with_one, new_type, run_ok, typed_goes}
 
 -- what a row may not break
 limits_stable : (b : List Row) (r : Row) → NoneOf (RowFault true b r) → (count (section r) b < limit (section r)) × (row_leaves b r ≤ 4)
@@ -215,21 +216,15 @@ module _ (rows : List Row) (A : Meaning) (mounted : Mounted rows) (lawful : Lawf
   abbrev Begun : Memory → List Tree → Type 0
   Begun μ done = (Σ' : List Tree) × Grows V Γ A Σ Σ' × EntriesOk V Γ A Σ' μ.names Σ' × GlobalsOk V Γ A Σ' μ.globals done
 
-  globals_push : (Σ' : List Tree) (vs : List Value) (θs : List Tree) (v : Value) (θ : Tree) → GlobalsOk V Γ A Σ' vs θs → Typed V Γ A Σ' [] ⌊ v ⌋ θ → GlobalsOk V Γ A Σ' (vs ++ (v ∷ [])) (θs ++ (θ ∷ []))
-  globals_push Σ' [] [] v θ h k = (k, tt)
-  globals_push Σ' [] (ρ ∷ θs) v θ h k = absurd h
-  globals_push Σ' (w ∷ vs) [] v θ h k = absurd h
-  globals_push Σ' (w ∷ vs) (ρ ∷ θs) v θ h k = (h.0, globals_push Σ' vs θs v θ h.1 k)
-
   word_begun : (μ : Memory) (done : List Tree) (θ : Tree) (i : ℤ) → θ ≡ int_type → A.lawful i ≡ true → Begun μ done → Begun (with_beginning (with_word i) μ) (done ++ (θ ∷ []))
-  word_begun μ done θ i e l b = (b.0, b.1, b.2, globals_push b.0 μ.globals done (word i) θ b.3 (e, l))
+  word_begun μ done θ i e l b = (b.0, b.1, b.2, push (GlobalOk V Γ A b.0) μ.globals done (word i) θ b.3 (e, l))
 
   function_begun : (μ : Memory) (done : List Tree) (θ : Tree) (x : Entry) → EntryOk V Γ A Σ x θ → Begun μ done → Begun (with_beginning (with_function x) μ) (done ++ (θ ∷ []))
   function_begun μ done θ x e b = (
     b.0 ++ (θ ∷ []),
     (λ m ρ d. grows_push V Γ A b.0 θ m ρ (b.1 m ρ d)),
     with_one V Γ A b.0 μ.names x θ b.2 (entry_grow V Γ A Σ b.0 b.1 x θ e),
-    globals_push (b.0 ++ (θ ∷ [])) μ.globals done (name (length μ.names)) θ (globals_grow V Γ A b.0 (b.0 ++ (θ ∷ [])) (grows_push V Γ A b.0 θ) μ.globals done b.3) (new_type V Γ A b.0 μ.names θ b.2),
+    push (GlobalOk V Γ A (b.0 ++ (θ ∷ []))) μ.globals done (name (length μ.names)) θ (globals_grow V Γ A b.0 (b.0 ++ (θ ∷ [])) (grows_push V Γ A b.0 θ) μ.globals done b.3) (new_type V Γ A b.0 μ.names θ b.2),
   )
 
   global_begun : (t e : ℕ) (μ : Memory) (done : List Tree) → GlobalRule rows t e → Begun μ done → Begun (with_beginning (begins (unfolded rows e)) μ) (done ++ (listed_type rows t ∷ []))

@@ -1,6 +1,7 @@
 -- Typed positions: each step of the game keeps them typed and adds at most four names, and none is stuck.
 use Rattle.std.proofs.Common.{◌≡◌, ℕ, zero, suc, ◌+◌, ◌*◌, ◌<◌, ◌≤◌, Bool, true, false, ◌⊎◌, List, [], ◌∷◌, ◌++◌, length, set, sym, refl, ap, ◌∙◌, subst, inl, inr, arith, length-append}
 use mathlib.Core.Option.{Option, none, some}
+use Rattle.std.specs.List.{AllZip}
 use Rattle.std.proofs.str.Laws.{order}
 use Rattle.arithmetic.specs.Meaning.{Meaning, Closed}
 use Rattle.rows.specs.Types.{Tree, leaves, unit as unit_type, int as int_type, pair as pair_type, fun as function_type}
@@ -19,6 +20,7 @@ use Rattle.rules.specs.Enumeration.{Next, goes_on, hands, fails, deep, no_step, 
 use Rattle.rules.specs.Laws.{GoesOn, names_at}
 use Rattle.rules.proofs.Exact.{parts_are, MadeOf}
 use Rattle.rules.proofs.Nexts.{IsSo, next_so}
+use Rattle.rules.proofs.Places.{at_here, at_more, across, back, set_at, push, as_long, weaker}
 use Rattle.rules.proofs.Typed.{Typed, Grows, weaken, Takes, plugged, Functions, Fine, fine, body_replaced}
 
 -- a type and the types in it have at most four leaves
@@ -34,15 +36,6 @@ few_leaves int_type h = omega arith
 few_leaves (pair_type θ θ') h = h.0
 few_leaves (function_type θ θ') h = omega arith
 
-at_last : {X : Type 0} (xs : List X) (x : X) → at (xs ++ (x ∷ [])) (length xs) ≡ some x
-at_last [] x = refl
-at_last (y ∷ xs) x = at_last xs x
-
-at_more : {X : Type 0} (xs ys : List X) (n : ℕ) (x : X) → at xs n ≡ some x → at (xs ++ ys) n ≡ some x
-at_more [] ys n x e = cc
-at_more (y ∷ xs) ys zero x e = e
-at_more (y ∷ xs) ys (suc n) x e = at_more xs ys n x e
-
 module _ (V : ℕ → Tree) (Γ : List Tree) (A : Meaning) where
   abbrev pub EntryOk : List Tree → Entry → Tree → Type 0
   EntryOk Σ (host_name ρ σ) θ = (θ ≡ function_type ρ σ) × Small ρ × Small σ
@@ -50,88 +43,41 @@ module _ (V : ℕ → Tree) (Γ : List Tree) (A : Meaning) where
 
   -- what stands behind each name has its type, and so has the value of each global
   abbrev pub EntriesOk : List Tree → List Entry → List Tree → Type 0
-  EntriesOk Σ [] [] = Unit {0}
-  EntriesOk Σ [] (θ ∷ θs) = ⊥
-  EntriesOk Σ (e ∷ es) [] = ⊥
-  EntriesOk Σ (e ∷ es) (θ ∷ θs) = EntryOk Σ e θ × EntriesOk Σ es θs
+  EntriesOk Σ = AllZip (EntryOk Σ)
+
+  abbrev pub GlobalOk : List Tree → Value → Tree → Type 0
+  GlobalOk Σ v θ = Typed V Γ A Σ [] ⌊ v ⌋ θ
 
   abbrev pub GlobalsOk : List Tree → List Value → List Tree → Type 0
-  GlobalsOk Σ [] [] = Unit {0}
-  GlobalsOk Σ [] (θ ∷ θs) = ⊥
-  GlobalsOk Σ (v ∷ vs) [] = ⊥
-  GlobalsOk Σ (v ∷ vs) (θ ∷ θs) = Typed V Γ A Σ [] ⌊ v ⌋ θ × GlobalsOk Σ vs θs
+  GlobalsOk Σ = AllZip (GlobalOk Σ)
 
   abbrev pub MemoryOk : List Tree → Memory → Type 0
   MemoryOk Σ μ = EntriesOk Σ μ.names Σ × GlobalsOk Σ μ.globals Γ
-
-  entries_length : (Σ : List Tree) (es : List Entry) (θs : List Tree) → EntriesOk Σ es θs → length es ≡ length θs
-  entries_length Σ [] [] h = refl
-  entries_length Σ [] (θ ∷ θs) h = absurd h
-  entries_length Σ (e ∷ es) [] h = absurd h
-  entries_length Σ (e ∷ es) (θ ∷ θs) h = ap suc (entries_length Σ es θs h.1)
-
-  entry_at : (Σ : List Tree) (es : List Entry) (θs : List Tree) (m : ℕ) (e : Entry) → EntriesOk Σ es θs → at es m ≡ some e → (θ : Tree) × (at θs m ≡ some θ) × EntryOk Σ e θ
-  entry_at Σ [] θs m e h d = cc
-  entry_at Σ (f ∷ es) [] m e h d = absurd h
-  entry_at Σ (f ∷ es) (θ ∷ θs) zero e h d = let same : f ≡ e = cc in (θ, refl, subst (λ (x : Entry). EntryOk Σ x θ) same h.0)
-  entry_at Σ (f ∷ es) (θ ∷ θs) (suc m) e h d = entry_at Σ es θs m e h.1 d
-
-  type_at : (Σ : List Tree) (es : List Entry) (θs : List Tree) (m : ℕ) (θ : Tree) → EntriesOk Σ es θs → at θs m ≡ some θ → (e : Entry) × (at es m ≡ some e) × EntryOk Σ e θ
-  type_at Σ es [] m θ h d = cc
-  type_at Σ [] (ρ ∷ θs) m θ h d = absurd h
-  type_at Σ (e ∷ es) (ρ ∷ θs) zero θ h d = let same : ρ ≡ θ = cc in (e, refl, subst (λ (x : Tree). EntryOk Σ e x) same h.0)
-  type_at Σ (e ∷ es) (ρ ∷ θs) (suc m) θ h d = type_at Σ es θs m θ h.1 d
 
   entry_function : (Σ : List Tree) (e : Entry) (θ : Tree) → EntryOk Σ e θ → (ρ : Tree) × (σ : Tree) × (θ ≡ function_type ρ σ)
   entry_function Σ (host_name ρ σ) θ h = (ρ, σ, h.0)
   entry_function Σ (library_name x ρ M) θ h = (ρ, h.0, h.1)
 
   functions : (Σ : List Tree) (es : List Entry) → EntriesOk Σ es Σ → Functions V Γ A Σ
-  functions Σ es h m θ d = let x = type_at Σ es Σ m θ h d in entry_function Σ x.0 θ x.2
+  functions Σ es h m θ d = let x = back (EntryOk Σ) es Σ m θ h d in entry_function Σ x.0 θ x.2
 
   pub entry_grow : (Σ Σ' : List Tree) → Grows V Γ A Σ Σ' → (e : Entry) (θ : Tree) → EntryOk Σ e θ → EntryOk Σ' e θ
   entry_grow Σ Σ' g (host_name ρ σ) θ h = h
   entry_grow Σ Σ' g (library_name x ρ M) θ h = (h.0, h.1, h.2, weaken V Γ A Σ Σ' (x ∷ []) (x ∷ []) g (λ y i. i) M h.0 h.3)
 
-  entries_grow : (Σ Σ' : List Tree) → Grows V Γ A Σ Σ' → (es : List Entry) (θs : List Tree) → EntriesOk Σ es θs → EntriesOk Σ' es θs
-  entries_grow Σ Σ' g [] [] h = tt
-  entries_grow Σ Σ' g [] (θ ∷ θs) h = h
-  entries_grow Σ Σ' g (e ∷ es) [] h = h
-  entries_grow Σ Σ' g (e ∷ es) (θ ∷ θs) h = (entry_grow Σ Σ' g e θ h.0, entries_grow Σ Σ' g es θs h.1)
-
   pub globals_grow : (Σ Σ' : List Tree) → Grows V Γ A Σ Σ' → (vs : List Value) (θs : List Tree) → GlobalsOk Σ vs θs → GlobalsOk Σ' vs θs
-  globals_grow Σ Σ' g [] [] h = tt
-  globals_grow Σ Σ' g [] (θ ∷ θs) h = h
-  globals_grow Σ Σ' g (v ∷ vs) [] h = h
-  globals_grow Σ Σ' g (v ∷ vs) (θ ∷ θs) h = (weaken V Γ A Σ Σ' [] [] g (λ y i. i) ⌊ v ⌋ θ h.0, globals_grow Σ Σ' g vs θs h.1)
-
-  pub entries_push : (Σ : List Tree) (es : List Entry) (θs : List Tree) (e : Entry) (θ : Tree) → EntriesOk Σ es θs → EntryOk Σ e θ → EntriesOk Σ (es ++ (e ∷ [])) (θs ++ (θ ∷ []))
-  entries_push Σ [] [] e θ h k = (k, tt)
-  entries_push Σ [] (ρ ∷ θs) e θ h k = absurd h
-  entries_push Σ (f ∷ es) [] e θ h k = absurd h
-  entries_push Σ (f ∷ es) (ρ ∷ θs) e θ h k = (h.0, entries_push Σ es θs e θ h.1 k)
+  globals_grow Σ Σ' g = weaker (GlobalOk Σ) (GlobalOk Σ') (λ v θ h. weaken V Γ A Σ Σ' [] [] g (λ y i. i) ⌊ v ⌋ θ h)
 
   pub grows_push : (Σ : List Tree) (θ : Tree) → Grows V Γ A Σ (Σ ++ (θ ∷ []))
   grows_push Σ θ m ρ d = at_more Σ (θ ∷ []) m ρ d
 
   -- one name more
   pub with_one : (Σ : List Tree) (es : List Entry) (e : Entry) (θ : Tree) → EntriesOk Σ es Σ → EntryOk Σ e θ → EntriesOk (Σ ++ (θ ∷ [])) (es ++ (e ∷ [])) (Σ ++ (θ ∷ []))
-  with_one Σ es e θ h k = entries_grow Σ (Σ ++ (θ ∷ [])) (grows_push Σ θ) (es ++ (e ∷ [])) (Σ ++ (θ ∷ [])) (entries_push Σ es Σ e θ h k)
+  with_one Σ es e θ h k =
+      weaker (EntryOk Σ) (EntryOk (Σ ++ (θ ∷ []))) (entry_grow Σ (Σ ++ (θ ∷ [])) (grows_push Σ θ)) (es ++ (e ∷ [])) (Σ ++ (θ ∷ [])) (push (EntryOk Σ) es Σ e θ h k)
 
   pub new_type : (Σ : List Tree) (es : List Entry) (θ : Tree) → EntriesOk Σ es Σ → at (Σ ++ (θ ∷ [])) (length es) ≡ some θ
-  new_type Σ es θ h = subst (λ (n : ℕ). at (Σ ++ (θ ∷ [])) n ≡ some θ) (sym (entries_length Σ es Σ h)) (at_last Σ θ)
-
-  global_at : (Σ : List Tree) (vs : List Value) (θs : List Tree) (r : ℕ) (θ : Tree) → GlobalsOk Σ vs θs → at θs r ≡ some θ → (v : Value) × (at vs r ≡ some v) × Typed V Γ A Σ [] ⌊ v ⌋ θ
-  global_at Σ vs [] r θ h d = cc
-  global_at Σ [] (ρ ∷ θs) r θ h d = absurd h
-  global_at Σ (v ∷ vs) (ρ ∷ θs) zero θ h d = let same : ρ ≡ θ = cc in (v, refl, subst (λ (x : Tree). Typed V Γ A Σ [] ⌊ v ⌋ x) same h.0)
-  global_at Σ (v ∷ vs) (ρ ∷ θs) (suc r) θ h d = global_at Σ vs θs r θ h.1 d
-
-  global_set : (Σ : List Tree) (vs : List Value) (θs : List Tree) (r : ℕ) (θ : Tree) (v : Value) → GlobalsOk Σ vs θs → at θs r ≡ some θ → Typed V Γ A Σ [] ⌊ v ⌋ θ → GlobalsOk Σ (set vs r v) θs
-  global_set Σ vs [] r θ v h d k = cc
-  global_set Σ [] (ρ ∷ θs) r θ v h d k = absurd h
-  global_set Σ (w ∷ vs) (ρ ∷ θs) zero θ v h d k = let same : ρ ≡ θ = cc in (subst (λ (x : Tree). Typed V Γ A Σ [] ⌊ v ⌋ x) (sym same) k, h.1)
-  global_set Σ (w ∷ vs) (ρ ∷ θs) (suc r) θ v h d k = (h.0, global_set Σ vs θs r θ v h.1 d k)
+  new_type Σ es θ h = subst (λ (n : ℕ). at (Σ ++ (θ ∷ [])) n ≡ some θ) (sym (as_long (EntryOk Σ) es Σ h)) (at_here Σ θ [])
 
   -- a step of the library's own keeps the type, and adds at most one name
   abbrev StateOk : List Tree → Tree → State → Type 0
@@ -173,19 +119,19 @@ module _ (V : ℕ → Tree) (Γ : List Tree) (A : Meaning) where
     where
       held : (ρ : Tree) → at Γ r ≡ some ρ → Typed V Γ A Σ [] ⌊ v ⌋ ρ
       held ρ k =
-          let g = global_at Σ μ.globals Γ r ρ h.0.1 k in
+          let g = back (GlobalOk Σ) μ.globals Γ r ρ h.0.1 k in
           let f : some g.0 ≡ some v = sym g.1 ∙ e in
           let same : g.0 ≡ v = cc in
           subst (λ (x : Value). Typed V Γ A Σ [] ⌊ x ⌋ ρ) same g.2
   preserved closed Σ θ c d (step.write E r v {μ}) h =
       let p = plugged V Γ A Σ E (put r ⌊ v ⌋) θ h.1 in
       let k = p.1 in
-      (Σ, (λ m ρ e. e), ((h.0.0, global_set Σ μ.globals Γ r k.1 v h.0.1 k.2 k.3), p.2 Σ (λ m ρ e. e) ⟨⟩ k.0), omega arith)
+      (Σ, (λ m ρ e. e), ((h.0.0, set_at (GlobalOk Σ) μ.globals Γ r v k.1 h.0.1 k.2 k.3), p.2 Σ (λ m ρ e. e) ⟨⟩ k.0), omega arith)
   preserved closed Σ θ c d (step.asserted E i {μ} e) h = same_memory Σ θ E (assert (num i)) ⟨⟩ μ h.0 h.1 (λ ρ k. k.0)
   preserved closed Σ θ c d (step.enter E m x ρ M v {μ} e) h =
       let p = plugged V Γ A Σ E (app (meth m) ⌊ v ⌋) θ h.1 in
       let k = p.1 in
-      let f = entry_at Σ μ.names Σ m (library_name x ρ M) h.0.0 e in
+      let f = across (EntryOk Σ) μ.names Σ m (library_name x ρ M) h.0.0 e in
       let g : some f.0 ≡ some (function_type k.0 p.0) = sym f.1 ∙ k.1 in
       let t : function_type k.0 p.0 ≡ function_type ρ f.2.0 = (let s : f.0 ≡ function_type k.0 p.0 = cc in sym s ∙ f.2.1) in
       (Σ, (λ n σ a. a), (h.0, p.2 Σ (λ n σ a. a) ⟪ M ⟨ v / x ⟩ ⟫ (inside k.0 p.0 ρ f.2.0 f.2.2 f.2.3 k.2 t)), omega arith)
@@ -254,14 +200,14 @@ module _ (G : Game) (V : ℕ → Tree) (Γ : List Tree) (closed : Closed G.meani
       ((ok.0, ok.2, (k.1.0, k.0, ok.1, k.1.1, k.2, ok.4)), omega arith)
   step_ok p q b (rule.library_answers m l v) ok = ((ok.0, ok.2, ok.4), omega arith)
   step_ok p q b (rule.host_calls m x l θ M v R {K} {μ} {P} i lt h s) ok =
-      let e = entry_at V Γ A ok.0 μ.names ok.0 m (library_name x θ M) ok.1.0 h in
+      let e = across (EntryOk V Γ A ok.0) μ.names ok.0 m (library_name x θ M) ok.1.0 h in
       let few : Small θ = subst Small (sym e.2.2) (small x) in
       let k = said_typed V Γ A closed θ μ.names v R s ok.0 few ok.1.0 in
       let called : Typed V Γ A k.0 [] (app (meth m) ⌊ v ⌋) e.2.0 = (θ, k.1 m (function_type θ e.2.0) (e.1 ∙ ap some e.2.1), k.3) in
       ((k.0, e.2.0, (k.2, globals_grow V Γ A ok.0 k.0 k.1 μ.globals Γ ok.1.1), called, pending_grow V Γ A ok.0 k.0 k.1 false K ok.2), omega (arith, k.4, few_leaves θ few))
   step_ok p q b (rule.host_answers m l E θ θ' v R {K} {μ} {P} h s) ok =
       let w = ok.2 in
-      let e = entry_at V Γ A ok.0 μ.names ok.0 m (host_name θ θ') ok.1.0 h in
+      let e = across (EntryOk V Γ A ok.0) μ.names ok.0 m (host_name θ θ') ok.1.0 h in
       let few : Small θ' = e.2.2 in
       let k = said_typed V Γ A closed θ' μ.names v R s ok.0 few ok.1.0 in
       let t : function_type w.0 w.1 ≡ function_type θ θ' = one_type V Γ A ok.0 m (function_type w.0 w.1) (function_type θ θ') w.3 (e.1 ∙ ap some e.2.0) in
@@ -311,10 +257,10 @@ module _ (G : Game) (V : ℕ → Tree) (Γ : List Tree) (closed : Closed G.meani
     redex_some Σ ρ (fst! v w) h k e = bounded_some _ _ e
     redex_some Σ ρ (snd! v w) h k e = bounded_some _ _ e
     redex_some Σ ρ (ite! i M N) h k e = bounded_some _ _ e
-    redex_some Σ ρ (get! r) h k e = let g = global_at V Γ A Σ μ.globals Γ r ρ h.1 k in reading_some (at μ.globals r) g.0 g.1 e
+    redex_some Σ ρ (get! r) h k e = let g = back (GlobalOk V Γ A Σ) μ.globals Γ r ρ h.1 k in reading_some (at μ.globals r) g.0 g.1 e
     redex_some Σ ρ (put! r v) h k e = bounded_some _ _ e
     redex_some Σ ρ (assert! i) h k e = asserting_some (A.zero i) e
-    redex_some Σ ρ (call! m v) h k e = let g = type_at V Γ A Σ μ.names Σ m (function_type k.0 ρ) h.0 k.1 in calling_some (at μ.names m) m v g.0 g.1 e
+    redex_some Σ ρ (call! m v) h k e = let g = back (EntryOk V Γ A Σ) μ.names Σ m (function_type k.0 ρ) h.0 k.1 in calling_some (at μ.names m) m v g.0 g.1 e
     redex_some Σ ρ (leave! v) h k e = bounded_some _ _ e
 
   parts_some : (K : List Pending) (M : Term) (μ : Memory) (P : List ℕ) (Σ : List Tree) (θ : Tree) (s : Parts) → MadeOf M s → MemoryOk V Γ A Σ μ → Typed V Γ A Σ [] M θ → Fine V Γ A Σ θ s → PendingOk V Γ A true Σ K → next_by G K s μ P ≡ no_step → ⊥

@@ -12,28 +12,11 @@ use Rattle.rules.specs.Enumeration.{Played, moves_of}
 use Rattle.rules.specs.Order.{Before, Ascending, WithoutRepetition, Counted}
 use Rattle.rules.specs.Ranges.{After, FullInRange, AllPlays, FullPlaysAreCounted}
 use Rattle.rules.proofs.Distinct.{no_repetition, listed_play, play_listed, counted_plays}
+use Rattle.rules.proofs.Places.{place, there, inside}
 use Rattle.rules.proofs.OneWay.{before_one_way}
 
 -- what stands at places of a list, and of a part of it
 module _ {X : Type 0} where
-  -- what stands in a list stands at a place
-  pub place : (x : X) (xs : List X) → Memᴰ x xs → (k : ℕ) × (at xs k ≡ some x)
-  place x [] i = absurd (Memᴰ.not-nil i)
-  place x (y ∷ xs) (Memᴰ.head e) = (0, ap some (sym e))
-  place x (y ∷ xs) (Memᴰ.tail i) = let w = place x xs i in (suc w.0, w.1)
-
-  -- what stands at a place stands in the list
-  there : (x : X) (xs : List X) (k : ℕ) → at xs k ≡ some x → Memᴰ x xs
-  there x [] k e = cc
-  there x (y ∷ xs) zero e = Memᴰ.head (cc)
-  there x (y ∷ xs) (suc k) e = Memᴰ.tail (there x xs k e)
-
-  -- where something stands, the list has a place
-  inside : (x : X) (xs : List X) (k : ℕ) → at xs k ≡ some x → k < length xs
-  inside x [] k e = cc
-  inside x (y ∷ xs) zero e = omega arith
-  inside x (y ∷ xs) (suc k) e = let h = inside x xs k e in omega arith
-
   -- in an ascending list the element at an earlier place comes before the one at a later place
   in_order_at : (R : X → X → Type 0) (xs : List X) → Ascending R xs → (i k : ℕ) (x y : X) → i < k → at xs i ≡ some x → at xs k ≡ some y → R x y
   in_order_at R [] up i k x y lt d e = cc

@@ -21,6 +21,7 @@ use Rattle.rules.specs.Enumeration.{hands}
 use Rattle.rules.specs.Listings.{name_field, leaf_fields, pass_fields, listing}
 use Rattle.rules.specs.Laws.{names_at, ListingsTellPlays}
 use Rattle.rules.proofs.Nexts.{step_next}
+use Rattle.rules.proofs.Places.{inside}
 use Rattle.rules.proofs.Begun.{playable_has_few_names}
 use Rattle.rules.proofs.Determined.{Said, said, HostStep, CallStep, AnswerStep, calling, answering, host_step, one_inside, inside_no_pass, ended_no_inside, one_pass}
 
@@ -115,11 +116,6 @@ module _ (A : Meaning) (closed : Closed A) where
       let d : leaf_fields (name (length R)) ++ x ≡ leaf_fields (name (length R)) ++ y = ap (λ z. leaf_fields z ++ x) (sym h.0) ∙ e ∙ ap (λ z. leaf_fields z ++ y) k.0 in
       (h.0 ∙ sym k.0, h.1 ∙ sym k.1, (cc))
 
-at_low : {X : Type 0} (xs : List X) (n : ℕ) (x : X) → at xs n ≡ some x → n < length xs
-at_low [] n x e = cc
-at_low (y ∷ xs) zero x e = omega arith
-at_low (y ∷ xs) (suc n) x e = let h = at_low xs n x e in omega arith
-
 host_free : Free (codes "H")
 host_free = omega arith
 
@@ -136,13 +132,13 @@ module _ (G : Game) (closed : Closed G.meaning) where
   module _ (K : List Pending) (l : ℕ) (μ : Memory) (P : List ℕ) where
     call_fields_free : (a : Pass) (q : Position) → Few (host_turn K l μ P) → Few q → (c : CallStep G K l μ P a q) → AllByRecursion Free (pass_fields (host_call c.0 c.4))
     call_fields_free a q few few' c =
-        let low = at_low μ.names c.0 _ c.6 in
+        let low = inside _ μ.names c.0 c.6 in
         let few'' : length c.5 ≤ 65535 = subst Few c.9 few' in
         (host_free, (call_free, (name_free c.0 (omega arith), leaves_free G.meaning closed c.2 μ.names c.4 c.5 c.7 few'')))
 
     answer_fields_free : (a : Pass) (q : Position) → Few (host_turn K l μ P) → Few q → (c : AnswerStep G K l μ P a q) → AllByRecursion Free (pass_fields (host_answer c.0 c.4))
     answer_fields_free a q few few' c =
-        let low = at_low μ.names c.0 _ c.7 in
+        let low = inside _ μ.names c.0 c.7 in
         let few'' : length c.5 ≤ 65535 = subst Few c.11 few' in
         (host_free, (ret_free, (name_free c.0 (omega arith), leaves_free G.meaning closed c.3 μ.names c.4 c.5 c.8 few'')))
 
@@ -153,8 +149,8 @@ module _ (G : Game) (closed : Closed G.meaning) where
         let fields = told.0 in
         let names : decimal c.0 ≡ decimal d.0 = cc in
         let leaves : leaf_fields c.4 ≡ leaf_fields d.4 = cc in
-        let lc = at_low μ.names c.0 _ c.6 in
-        let ld = at_low μ.names d.0 _ d.6 in
+        let lc = inside _ μ.names c.0 c.6 in
+        let ld = inside _ μ.names d.0 d.6 in
         let m : c.0 ≡ d.0 = same_decimal c.0 d.0 (omega arith) (omega arith) names in
         let θ : c.2 ≡ d.2 = cc in
         let says : Says G.meaning c.2 μ.names d.4 d.5 = subst (λ (z : Tree). Says G.meaning z μ.names d.4 d.5) (sym θ) d.7 in
@@ -168,8 +164,8 @@ module _ (G : Game) (closed : Closed G.meaning) where
         let fields = told.0 in
         let names : decimal c.0 ≡ decimal d.0 = cc in
         let leaves : leaf_fields c.4 ≡ leaf_fields d.4 = cc in
-        let lc = at_low μ.names c.0 _ c.7 in
-        let ld = at_low μ.names d.0 _ d.7 in
+        let lc = inside _ μ.names c.0 c.7 in
+        let ld = inside _ μ.names d.0 d.7 in
         let m : c.0 ≡ d.0 = same_decimal c.0 d.0 (omega arith) (omega arith) names in
         let θ : c.3 ≡ d.3 = cc in
         let says : Says G.meaning c.3 μ.names d.4 d.5 = subst (λ (z : Tree). Says G.meaning z μ.names d.4 d.5) (sym θ) d.8 in

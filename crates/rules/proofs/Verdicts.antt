@@ -18,7 +18,8 @@ use Rattle.rules.proofs.Ordered.{all_plays}
 use Rattle.rules.proofs.Distinct.{listed_play, full_of}
 use Rattle.rules.proofs.Counts.{losing_is_full}
 use Rattle.rules.proofs.Determined.{moves_determine_the_play}
-use Rattle.rules.proofs.Ranges.{place, before_at, in_range, range_in, full_plays_are_counted}
+use Rattle.rules.proofs.Places.{place, at_here, at_map}
+use Rattle.rules.proofs.Ranges.{before_at, in_range, range_in, full_plays_are_counted}
 
 -- whether an ending is a cut by depth
 abbrev by_depth : Ending → Bool
@@ -244,14 +245,9 @@ module _ (G : Game) (list : WordList) (law : Listed G.meaning list) (plays : Lis
     abbrev j : ℕ
     j = length h.before
 
-    -- what stands behind the first elements of a list
-    at_here : (xs ys : List Played) (x : Played) → at (map moves_of (xs ++ (x ∷ ys))) (length xs) ≡ some (moves_of x)
-    at_here [] ys x = refl
-    at_here (y ∷ xs) ys x = at_here xs ys x
-
     -- its moves stand at its place
     at_j : at (map moves_of plays) j ≡ some (host_moves trace)
-    at_j = ap (λ (z : List Played). at (map moves_of z) j) h.parts ∙ at_here h.before h.after (played trace failed steps)
+    at_j = at_map moves_of plays j (played trace failed steps) (ap (λ (z : List Played). at z j) h.parts ∙ at_here h.before (played trace failed steps) h.after)
 
     -- a play that stands before the losing one
     sooner : (xs ys : List Played) (k : ℕ) (moves : List Move) → k < length xs → at (map moves_of (xs ++ ys)) k ≡ some moves → (x : Played) × Memᴰ x xs × (moves_of x ≡ moves)
