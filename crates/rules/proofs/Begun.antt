@@ -69,10 +69,7 @@ types_small b ts [] good e h = h
 types_small b ts (TypeRow n f ∷ rows) good e h =
     let few : leaves (tree ts f) ≤ 4 = subst (λ (x : List Tree). leaves (tree x f) ≤ 4) e (limits_stable b (TypeRow n f) good.0).1 in
     types_small (b ++ (TypeRow n f ∷ [])) (ts ++ (tree ts f ∷ [])) rows good.1 (types_push [] b (TypeRow n f) ∙ ap (λ x. x ++ (tree x f ∷ [])) e) (small_push ts (tree ts f) h (tree_small ts f h few))
-types_small b ts (VariableRow n t ∷ rows) good e h = types_small (b ++ (VariableRow n t ∷ [])) ts rows good.1 (types_push [] b (VariableRow n t) ∙ e) h
-types_small b ts (MethodRow n f ∷ rows) good e h = types_small (b ++ (MethodRow n f ∷ [])) ts rows good.1 (types_push [] b (MethodRow n f) ∙ e) h
-types_small b ts (GlobalRow n t x ∷ rows) good e h = types_small (b ++ (GlobalRow n t x ∷ [])) ts rows good.1 (types_push [] b (GlobalRow n t x) ∙ e) h
-types_small b ts (TermRow n f ∷ rows) good e h = types_small (b ++ (TermRow n f ∷ [])) ts rows good.1 (types_push [] b (TermRow n f) ∙ e) h
+types_small b ts (row ∷ rows) good e h = types_small (b ++ (row ∷ [])) ts rows good.1 (types_push [] b row ∙ e) h
 
 -- at most 64 methods and 16 globals
 few_methods : (b rows : List Row) → EachGood b rows → count Methods b ≤ 64 → count Methods b + count Methods rows ≤ 64
@@ -99,11 +96,8 @@ few_globals b (TermRow n f ∷ rows) good h = let k = few_globals (b ++ (TermRow
 
 method_count : (all rows : List Row) → length (method_entries all rows) ≡ count Methods rows
 method_count all [] = refl
-method_count all (TypeRow n f ∷ rows) = let k = method_count all rows in omega arith
-method_count all (VariableRow n t ∷ rows) = let k = method_count all rows in omega arith
 method_count all (MethodRow n f ∷ rows) = let k = method_count all rows in omega arith
-method_count all (GlobalRow n t x ∷ rows) = let k = method_count all rows in omega arith
-method_count all (TermRow n f ∷ rows) = let k = method_count all rows in omega arith
+method_count all (row ∷ rows) = let k = method_count all rows in omega arith
 
 one_more : (g : Begins) (μ : Memory) → length (with_beginning g μ).names ≤ length μ.names + 1
 one_more (with_word i) μ = omega arith
@@ -111,58 +105,40 @@ one_more (with_function e) μ = omega (arith, length-append μ.names (e ∷ []))
 
 names_count : (all rows : List Row) (μ : Memory) → length (with_globals all rows μ).names ≤ length μ.names + count Globals rows
 names_count all [] μ = omega arith
-names_count all (TypeRow n f ∷ rows) μ = let k = names_count all rows μ in omega arith
-names_count all (VariableRow n t ∷ rows) μ = let k = names_count all rows μ in omega arith
-names_count all (MethodRow n f ∷ rows) μ = let k = names_count all rows μ in omega arith
 names_count all (GlobalRow n t x ∷ rows) μ =
     let k = names_count all rows (with_beginning (begins (unfolded all x)) μ) in
     let one = one_more (begins (unfolded all x)) μ in
     omega arith
-names_count all (TermRow n f ∷ rows) μ = let k = names_count all rows μ in omega arith
+names_count all (row ∷ rows) μ = let k = names_count all rows μ in omega arith
 
 -- the types of the methods and of the globals
 abbrev method_types : List Row → List Row → List Tree
 method_types all [] = []
-method_types all (TypeRow n f ∷ rows) = method_types all rows
-method_types all (VariableRow n t ∷ rows) = method_types all rows
 method_types all (MethodRow n f ∷ rows) = listed_type all (method_type f) ∷ method_types all rows
-method_types all (GlobalRow n t x ∷ rows) = method_types all rows
-method_types all (TermRow n f ∷ rows) = method_types all rows
+method_types all (row ∷ rows) = method_types all rows
 
 abbrev global_types : List Row → List Row → List Tree
 global_types all [] = []
-global_types all (TypeRow n f ∷ rows) = global_types all rows
-global_types all (VariableRow n t ∷ rows) = global_types all rows
-global_types all (MethodRow n f ∷ rows) = global_types all rows
 global_types all (GlobalRow n t x ∷ rows) = listed_type all t ∷ global_types all rows
-global_types all (TermRow n f ∷ rows) = global_types all rows
+global_types all (row ∷ rows) = global_types all rows
 
 method_known : (all rows : List Row) (m k : ℕ) → method_type_of (slice_get (section_rows Methods rows) m) ≡ Some k → at (method_types all rows) m ≡ some (listed_type all k)
 method_known all [] m k e = cc
-method_known all (TypeRow n f ∷ rows) m k e = method_known all rows m k e
-method_known all (VariableRow n t ∷ rows) m k e = method_known all rows m k e
 method_known all (MethodRow n f ∷ rows) zero k e = let same : method_type f ≡ k = cc in ap (λ x. some (listed_type all x)) same
 method_known all (MethodRow n f ∷ rows) (suc m) k e = method_known all rows m k e
-method_known all (GlobalRow n t x ∷ rows) m k e = method_known all rows m k e
-method_known all (TermRow n f ∷ rows) m k e = method_known all rows m k e
+method_known all (row ∷ rows) m k e = method_known all rows m k e
 
 global_known : (all rows : List Row) (r k : ℕ) → global_type_of (slice_get (section_rows Globals rows) r) ≡ Some k → at (global_types all rows) r ≡ some (listed_type all k)
 global_known all [] r k e = cc
-global_known all (TypeRow n f ∷ rows) r k e = global_known all rows r k e
-global_known all (VariableRow n t ∷ rows) r k e = global_known all rows r k e
-global_known all (MethodRow n f ∷ rows) r k e = global_known all rows r k e
 global_known all (GlobalRow n t x ∷ rows) zero k e = let same : t ≡ k = cc in ap (λ y. some (listed_type all y)) same
 global_known all (GlobalRow n t x ∷ rows) (suc r) k e = global_known all rows r k e
-global_known all (TermRow n f ∷ rows) r k e = global_known all rows r k e
+global_known all (row ∷ rows) r k e = global_known all rows r k e
 
 variable_known : (rows : List Row) (x k : ℕ) → variable_type_of (slice_get (section_rows Variables rows) x) ≡ Some k → get_or (variable_types rows) x 0 ≡ k
 variable_known [] x k e = cc
-variable_known (TypeRow n f ∷ rows) x k e = variable_known rows x k e
 variable_known (VariableRow n t ∷ rows) zero k e = cc
 variable_known (VariableRow n t ∷ rows) (suc x) k e = variable_known rows x k e
-variable_known (MethodRow n f ∷ rows) x k e = variable_known rows x k e
-variable_known (GlobalRow n t y ∷ rows) x k e = variable_known rows x k e
-variable_known (TermRow n f ∷ rows) x k e = variable_known rows x k e
+variable_known (row ∷ rows) x k e = variable_known rows x k e
 
 module _ (rows : List Row) (A : Meaning) (mounted : Mounted rows) (lawful : LawfulNumbers A rows) where
   abbrev V : ℕ → Tree
@@ -206,11 +182,8 @@ module _ (rows : List Row) (A : Meaning) (mounted : Mounted rows) (lawful : Lawf
 
   methods_ok : (rs : List Row) → ((n : ℕ) (f : MethodForm) → Memᴰ (MethodRow n f) rs → MethodRule rows f) → EntriesOk V Γ A Σ (method_entries rows rs) (method_types rows rs)
   methods_ok [] h = tt
-  methods_ok (TypeRow n f ∷ rs) h = methods_ok rs (λ m g i. h m g (Memᴰ.tail i))
-  methods_ok (VariableRow n t ∷ rs) h = methods_ok rs (λ m g i. h m g (Memᴰ.tail i))
   methods_ok (MethodRow n f ∷ rs) h = (method_ok f (h n f (Memᴰ.head refl)), methods_ok rs (λ m g i. h m g (Memᴰ.tail i)))
-  methods_ok (GlobalRow n t e ∷ rs) h = methods_ok rs (λ m g i. h m g (Memᴰ.tail i))
-  methods_ok (TermRow n f ∷ rs) h = methods_ok rs (λ m g i. h m g (Memᴰ.tail i))
+  methods_ok (row ∷ rs) h = methods_ok rs (λ m g i. h m g (Memᴰ.tail i))
 
   -- a memory whose globals have the types that are done so far
   abbrev Begun : Memory → List Tree → Type 0
@@ -237,13 +210,10 @@ module _ (rows : List Row) (A : Meaning) (mounted : Mounted rows) (lawful : Lawf
 
   globals_begun : (rs : List Row) (μ : Memory) (done : List Tree) → ((n t e : ℕ) → Memᴰ (GlobalRow n t e) rs → GlobalRule rows t e) → Begun μ done → Begun (with_globals rows rs μ) (done ++ global_types rows rs)
   globals_begun [] μ done h b = subst (λ (x : List Tree). Begun μ x) (sym (append-nil done)) b
-  globals_begun (TypeRow n f ∷ rs) μ done h b = globals_begun rs μ done (λ m t e i. h m t e (Memᴰ.tail i)) b
-  globals_begun (VariableRow n t ∷ rs) μ done h b = globals_begun rs μ done (λ m u e i. h m u e (Memᴰ.tail i)) b
-  globals_begun (MethodRow n f ∷ rs) μ done h b = globals_begun rs μ done (λ m t e i. h m t e (Memᴰ.tail i)) b
   globals_begun (GlobalRow n t e ∷ rs) μ done h b =
       subst (λ (x : List Tree). Begun (with_globals rows rs (with_beginning (begins (unfolded rows e)) μ)) x) (append_assoc done (listed_type rows t ∷ []) (global_types rows rs))
       (globals_begun rs (with_beginning (begins (unfolded rows e)) μ) (done ++ (listed_type rows t ∷ [])) (λ m u x i. h m u x (Memᴰ.tail i)) (global_begun t e μ done (h n t e (Memᴰ.head refl)) b))
-  globals_begun (TermRow n f ∷ rs) μ done h b = globals_begun rs μ done (λ m t e i. h m t e (Memᴰ.tail i)) b
+  globals_begun (row ∷ rs) μ done h b = globals_begun rs μ done (λ m t e i. h m t e (Memᴰ.tail i)) b
 
   start_begun : Begun (start_memory rows) Γ
   start_begun = globals_begun rows (record { names = method_entries rows rows; globals = []; depth = 0 }) [] mounted.globals (Σ, (λ m θ d. d), methods_ok rows mounted.methods, tt)

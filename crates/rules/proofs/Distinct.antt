@@ -29,25 +29,19 @@ Distinct P = (m n : ℕ) → StandsBefore m n P → m ≡ n → ⊥
 
 low : (m : ℕ) (rows : List Row) (n : ℕ) → Memᴰ n (public_from m rows) → m ≤ n
 low m [] n i = absurd (Memᴰ.not-nil i)
-low m (TypeRow k f ∷ rows) n i = low m rows n i
-low m (VariableRow k t ∷ rows) n i = low m rows n i
 low m (MethodRow k (Abstract t) ∷ rows) n i = let h = low (suc m) rows n i in omega arith
 low m (MethodRow k (Public t e) ∷ rows) n (Memᴰ.head d) = omega arith
 low m (MethodRow k (Public t e) ∷ rows) n (Memᴰ.tail i) = let h = low (suc m) rows n i in omega arith
 low m (MethodRow k (Private t e) ∷ rows) n i = let h = low (suc m) rows n i in omega arith
-low m (GlobalRow k t e ∷ rows) n i = low m rows n i
-low m (TermRow k f ∷ rows) n i = low m rows n i
+low m (row ∷ rows) n i = low m rows n i
 
 pub public_distinct : (m : ℕ) (rows : List Row) → Distinct (public_from m rows)
 public_distinct m [] a b s e = elim s [ ]
-public_distinct m (TypeRow k f ∷ rows) a b s e = public_distinct m rows a b s e
-public_distinct m (VariableRow k t ∷ rows) a b s e = public_distinct m rows a b s e
 public_distinct m (MethodRow k (Abstract t) ∷ rows) a b s e = public_distinct (suc m) rows a b s e
 public_distinct m (MethodRow k (Public t x) ∷ rows) a b (order.here d i) e = let h = low (suc m) rows b i in omega arith
 public_distinct m (MethodRow k (Public t x) ∷ rows) a b (order.later s) e = public_distinct (suc m) rows a b s e
 public_distinct m (MethodRow k (Private t x) ∷ rows) a b s e = public_distinct (suc m) rows a b s e
-public_distinct m (GlobalRow k t x ∷ rows) a b s e = public_distinct m rows a b s e
-public_distinct m (TermRow k f ∷ rows) a b s e = public_distinct m rows a b s e
+public_distinct m (row ∷ rows) a b s e = public_distinct m rows a b s e
 
 -- a number in a list stands there
 absent : (m : ℕ) (P : List ℕ) → stands m P ≡ false → Memᴰ m P → ⊥

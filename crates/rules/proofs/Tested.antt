@@ -47,10 +47,7 @@ in_range_tested (word z ∷ ss) e = let p = and_parts (ltb (mag z) (2 ^ 31)) (in
 -- the test that a type is not listed before
 abbrev new_test : List Row → Row → Bool
 new_test before (TypeRow n f) = is_none (first_of_form f before)
-new_test before (VariableRow n t) = true
-new_test before (MethodRow n f) = true
-new_test before (GlobalRow n t u) = true
-new_test before (TermRow n f) = true
+new_test before row = true
 
 -- the test that a row has no fault after the rows before it, of which there is a tally
 abbrev row_test : List Row → Counts → List ℕ → Row → Bool
@@ -69,18 +66,12 @@ no_such before (TypeRow n f) e h = go (first_of_form f before) refl e
     go : (o : Option ℕ) → first_of_form f before ≡ o → is_none o ≡ true → ⊥
     go None d g = not_found f before h.0 d (ap type_form_of (slice_get-get_or before h.0 (TypeRow h.1 f) h.2 ∙ ap Some h.3))
     go (Some k) d g = cc
-no_such before (VariableRow n t) e h = h
-no_such before (MethodRow n f) e h = h
-no_such before (GlobalRow n t u) e h = h
-no_such before (TermRow n f) e h = h
+no_such before row e h = h
 
 -- the table of leaves stays as long as it is
 leaves_long : (c : Counts) (table : List ℕ) (s : Section) (n : ℕ) → length table ≡ 64 → length (leaves_with c table s n) ≡ 64
 leaves_long c table Types n e = length-set table c.types n ∙ e
-leaves_long c table Variables n e = e
-leaves_long c table Methods n e = e
-leaves_long c table Globals n e = e
-leaves_long c table Terms n e = e
+leaves_long c table s n e = e
 
 -- the tally of rows without fault
 pub record Good (rows : List Row) (c : Counts) (table : List ℕ) : Type 0 where
@@ -247,11 +238,8 @@ all_counted c = c.types + c.variables + c.methods + c.globals + c.terms
 -- the forms of the terms among rows
 abbrev forms : List Row → List TermForm
 forms [] = []
-forms (TypeRow n f ∷ rows) = forms rows
-forms (VariableRow n t ∷ rows) = forms rows
-forms (MethodRow n f ∷ rows) = forms rows
-forms (GlobalRow n t e ∷ rows) = forms rows
 forms (TermRow n f ∷ rows) = f ∷ forms rows
+forms (row ∷ rows) = forms rows
 
 -- a text is short, its rows have no fault, and they mount
 abbrev pub text_test : List ℕ → List Row → Bool

@@ -64,13 +64,10 @@ module _ (type : ℕ → Tree) where
   -- terms stay where they are as more are made
   grown : (before : List Term) (rows : List Row) → (more : List Term) × (terms_after type before rows ≡ before ++ more)
   grown before [] = ([], sym (append-nil before))
-  grown before (TypeRow n f ∷ rows) = grown before rows
-  grown before (VariableRow n t ∷ rows) = grown before rows
-  grown before (MethodRow n f ∷ rows) = grown before rows
-  grown before (GlobalRow n t e ∷ rows) = grown before rows
   grown before (TermRow n f ∷ rows) =
       let h = grown (before ++ (formed type before f ∷ [])) rows in
       (formed type before f ∷ h.0, h.1 ∙ append_assoc before (formed type before f ∷ []) h.0)
+  grown before (row ∷ rows) = grown before rows
 
   -- where the term row of a number stands: the terms before it, those behind it, and the rows before it
   abbrev Stands : List Term → List Row → ℕ → TermForm → Type 0
@@ -80,10 +77,6 @@ module _ (type : ℕ → Tree) where
 
   stands : (b : List Row) (before : List Term) (rows : List Row) (k : ℕ) (form : TermForm) → EachGood b rows → length before ≡ count Terms b → term_of (slice_get (section_rows Terms rows) k) ≡ Some form → Stands before rows k form
   stands b before [] k form good len e = cc
-  stands b before (TypeRow n f ∷ rows) k form good len e = stands (b ++ (TypeRow n f ∷ [])) before rows k form good.1 (omega (arith, count_append Terms b (TypeRow n f))) e
-  stands b before (VariableRow n t ∷ rows) k form good len e = stands (b ++ (VariableRow n t ∷ [])) before rows k form good.1 (omega (arith, count_append Terms b (VariableRow n t))) e
-  stands b before (MethodRow n f ∷ rows) k form good len e = stands (b ++ (MethodRow n f ∷ [])) before rows k form good.1 (omega (arith, count_append Terms b (MethodRow n f))) e
-  stands b before (GlobalRow n t x ∷ rows) k form good len e = stands (b ++ (GlobalRow n t x ∷ [])) before rows k form good.1 (omega (arith, count_append Terms b (GlobalRow n t x))) e
   stands b before (TermRow n f ∷ rows) zero form good len e =
       let same : f ≡ form = cc in
       let h = grown (before ++ (formed type before f ∷ [])) rows in
@@ -91,6 +84,7 @@ module _ (type : ℕ → Tree) where
   stands b before (TermRow n f ∷ rows) (suc k) form good len e =
       let w = stands (b ++ (TermRow n f ∷ [])) (before ++ (formed type before f ∷ [])) rows k form good.1 (omega (arith, count_append Terms b (TermRow n f), length-append before (formed type before f ∷ []))) e in
       (w.0, w.1, w.2, w.3, omega (arith, w.4, length-append before (formed type before f ∷ [])), w.5, w.6, w.7)
+  stands b before (row ∷ rows) k form good len e = stands (b ++ (row ∷ [])) before rows k form good.1 (omega (arith, count_append Terms b row)) e
 
 module _ (rows : List Row) (faultless : Faultless rows) where
   -- a term's tree is formed over the trees of its parts, which stand before it

@@ -1,6 +1,8 @@
 -- What trying the full plays in order comes to is how the game comes out.
 use Rattle.std.proofs.Common.{◌≡◌, ℕ, zero, suc, ◌+◌, ◌<◌, Bool, true, false, ◌||◌, ◌⊎◌, List, [], ◌∷◌, ◌++◌, map, length, take, MatchBool, sym, refl, ap, ◌∙◌, subst, inl, inr, arith}
 use Rattle.std.proofs.Math.Bool.{or-false}
+use Rattle.std.proofs.Math.Seq.{take-append-add}
+use Rattle.std.proofs.lemmas.List.{take-map}
 use mathlib.Core.List.Memᴰ
 use mathlib.Core.List.{Memᴰ}
 use mathlib.Core.Option.{none, some}
@@ -271,14 +273,11 @@ module _ (G : Game) (list : WordList) (law : Listed G.meaning list) (plays : Lis
     abbrev part : List Played
     part = h.before ++ (played trace failed steps ∷ [])
 
-    -- the first elements of a list, with the one behind them
-    take_here : (xs ys : List Played) (x : Played) → take (suc (length xs)) (map moves_of (xs ++ (x ∷ ys))) ≡ map moves_of (xs ++ (x ∷ []))
-    take_here [] ys x = refl
-    take_here (y ∷ xs) ys x = ap (λ (z : List (List Move)). moves_of y ∷ z) (take_here xs ys x)
-
     -- the first moves are those of the plays up to it
     part_is : take (suc j) (map moves_of plays) ≡ map moves_of part
-    part_is = ap (λ (z : List Played). take (suc j) (map moves_of z)) h.parts ∙ take_here h.before h.after (played trace failed steps)
+    part_is =
+        let e : suc j ≡ length h.before + 1 = omega arith in
+        take-map moves_of (suc j) plays ∙ ap (map moves_of) (ap (take (suc j)) h.parts ∙ ap (λ (n : ℕ). take n (h.before ++ (played trace failed steps ∷ h.after))) e ∙ take-append-add h.before (played trace failed steps ∷ h.after) 1)
 
     -- a play up to it is among the plays
     part_inside : (x : Played) → Memᴰ x part → Memᴰ x plays
