@@ -14,11 +14,12 @@ use Rattle.rows.specs.declared.forms.MethodForm.TheVariants.{Abstract, Public, P
 use Rattle.rows.specs.declared.forms.TermForm.TheVariants.{Num, Lam}
 use Rattle.rows.specs.declared.forms.Row.{Row}
 use Rattle.rows.specs.declared.forms.Row.TheVariants.{«Type» as TypeRow, Variable as VariableRow, Method as MethodRow, Global as GlobalRow, Term as TermRow}
+use Rattle.rows.specs.declared.forms.Section.{Section}
 use Rattle.rows.specs.declared.forms.Section.TheVariants.{Variables, Methods, Globals}
 use Rattle.rows.specs.Sections.{section, limit, count}
 use Rattle.rows.specs.Faults.{NoneOf, RowFault, WithinLimits, row_leaves}
 use Rattle.rows.specs.Types.{Tree, leaves, tree, with_row, types_after, types, unit as unit_type, int as int_type, fun as function_type}
-use Rattle.rows.proofs.Admits.{types_push}
+use Rattle.rows.proofs.Admits.{count_push, types_push}
 use Rattle.library.specs.Listing.{section_rows, method_type, method_type_of, global_type_of, variable_type_of}
 use Rattle.library.specs.Definitions.{ClosedFunction, MethodRule, GlobalRule}
 use Rattle.rules.specs.Terms.{Term, Value, word, name, ⟨⟩, lam, ⌊◌⌋}
@@ -28,7 +29,7 @@ use Rattle.rules.specs.Game.{Game, start}
 use Rattle.rules.specs.Mounted.{Mounted, LawfulNumbers}
 use Rattle.rules.specs.Laws.{PlayableIsNeverStuck, PlayableHasFewNames}
 use Rattle.rules.proofs.Typed.{Typed, Grows}
-use Rattle.rules.proofs.Unfolded.{EachGood, good_from, count_append, form_at, tree_typed}
+use Rattle.rules.proofs.Unfolded.{EachGood, good_from, form_at, tree_typed}
 use Rattle.rules.proofs.Counts.{within_steps}
 use Rattle.rules.proofs.Places.{push}
 use Rattle.rules.proofs.Preserved.{Small, EntryOk, EntriesOk, GlobalOk, GlobalsOk, PositionOk, entry_grow, globals_grow, grows_push, with_one, new_type, run_ok, typed_goes}
@@ -71,28 +72,22 @@ types_small b ts (TypeRow n f ∷ rows) good e h =
     types_small (b ++ (TypeRow n f ∷ [])) (ts ++ (tree ts f ∷ [])) rows good.1 (types_push [] b (TypeRow n f) ∙ ap (λ x. x ++ (tree x f ∷ [])) e) (small_push ts (tree ts f) h (tree_small ts f h few))
 types_small b ts (row ∷ rows) good e h = types_small (b ++ (row ∷ [])) ts rows good.1 (types_push [] b row ∙ e) h
 
--- at most 64 methods and 16 globals
-few_methods : (b rows : List Row) → EachGood b rows → count Methods b ≤ 64 → count Methods b + count Methods rows ≤ 64
-few_methods b [] good h = omega arith
-few_methods b (TypeRow n f ∷ rows) good h = let k = few_methods (b ++ (TypeRow n f ∷ [])) rows good.1 (omega (arith, count_append Methods b (TypeRow n f))) in omega (arith, count_append Methods b (TypeRow n f))
-few_methods b (VariableRow n t ∷ rows) good h = let k = few_methods (b ++ (VariableRow n t ∷ [])) rows good.1 (omega (arith, count_append Methods b (VariableRow n t))) in omega (arith, count_append Methods b (VariableRow n t))
-few_methods b (MethodRow n f ∷ rows) good h =
-    let low = (limits_stable b (MethodRow n f) good.0).0 in
-    let k = few_methods (b ++ (MethodRow n f ∷ [])) rows good.1 (omega (arith, count_append Methods b (MethodRow n f))) in
-    omega (arith, count_append Methods b (MethodRow n f))
-few_methods b (GlobalRow n t x ∷ rows) good h = let k = few_methods (b ++ (GlobalRow n t x ∷ [])) rows good.1 (omega (arith, count_append Methods b (GlobalRow n t x))) in omega (arith, count_append Methods b (GlobalRow n t x))
-few_methods b (TermRow n f ∷ rows) good h = let k = few_methods (b ++ (TermRow n f ∷ [])) rows good.1 (omega (arith, count_append Methods b (TermRow n f))) in omega (arith, count_append Methods b (TermRow n f))
+-- rows of a section stay within its limit, where no row passes it
+few : (s : Section) (most : ℕ) → ((b : List Row) (row : Row) → NoneOf (RowFault true b row) → count s b ≤ most → count s b + count s (row ∷ []) ≤ most) → (b rows : List Row) → EachGood b rows → count s b ≤ most → count s b + count s rows ≤ most
+few s most room b [] good h = omega arith
+few s most room b (row ∷ rows) good h =
+    let here = room b row good.0 h in
+    let k = few s most room (b ++ (row ∷ [])) rows good.1 (omega (arith, count_push s b row)) in
+    omega (arith, count_push s b row)
 
-few_globals : (b rows : List Row) → EachGood b rows → count Globals b ≤ 16 → count Globals b + count Globals rows ≤ 16
-few_globals b [] good h = omega arith
-few_globals b (TypeRow n f ∷ rows) good h = let k = few_globals (b ++ (TypeRow n f ∷ [])) rows good.1 (omega (arith, count_append Globals b (TypeRow n f))) in omega (arith, count_append Globals b (TypeRow n f))
-few_globals b (VariableRow n t ∷ rows) good h = let k = few_globals (b ++ (VariableRow n t ∷ [])) rows good.1 (omega (arith, count_append Globals b (VariableRow n t))) in omega (arith, count_append Globals b (VariableRow n t))
-few_globals b (MethodRow n f ∷ rows) good h = let k = few_globals (b ++ (MethodRow n f ∷ [])) rows good.1 (omega (arith, count_append Globals b (MethodRow n f))) in omega (arith, count_append Globals b (MethodRow n f))
-few_globals b (GlobalRow n t x ∷ rows) good h =
-    let low = (limits_stable b (GlobalRow n t x) good.0).0 in
-    let k = few_globals (b ++ (GlobalRow n t x ∷ [])) rows good.1 (omega (arith, count_append Globals b (GlobalRow n t x))) in
-    omega (arith, count_append Globals b (GlobalRow n t x))
-few_globals b (TermRow n f ∷ rows) good h = let k = few_globals (b ++ (TermRow n f ∷ [])) rows good.1 (omega (arith, count_append Globals b (TermRow n f))) in omega (arith, count_append Globals b (TermRow n f))
+-- at most 64 methods and 16 globals
+few_methods : (b : List Row) (row : Row) → NoneOf (RowFault true b row) → count Methods b ≤ 64 → count Methods b + count Methods (row ∷ []) ≤ 64
+few_methods b (MethodRow n f) good h = let low = (limits_stable b (MethodRow n f) good).0 in omega arith
+few_methods b row good h = omega arith
+
+few_globals : (b : List Row) (row : Row) → NoneOf (RowFault true b row) → count Globals b ≤ 16 → count Globals b + count Globals (row ∷ []) ≤ 16
+few_globals b (GlobalRow n t x) good h = let low = (limits_stable b (GlobalRow n t x) good).0 in omega arith
+few_globals b row good h = omega arith
 
 method_count : (all rows : List Row) → length (method_entries all rows) ≡ count Methods rows
 method_count all [] = refl
@@ -221,8 +216,8 @@ module _ (rows : List Row) (A : Meaning) (mounted : Mounted rows) (lawful : Lawf
   start_names : length (start_memory rows).names ≤ 80
   start_names =
       let good = good_from [] rows mounted.faultless in
-      let m = few_methods [] rows good (omega arith) in
-      let g = few_globals [] rows good (omega arith) in
+      let m = few Methods 64 few_methods [] rows good (omega arith) in
+      let g = few Globals 16 few_globals [] rows good (omega arith) in
       let c = method_count rows rows in
       let n = names_count rows rows (record { names = method_entries rows rows; globals = []; depth = 0 }) in
       omega arith

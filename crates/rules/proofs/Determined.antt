@@ -112,40 +112,26 @@ module _ (G : Game) where
       let is : first_moves (host_call c.0 c.4) ≡ first_moves (host_call d.0 d.4) = ap first_moves (sym c.8) ∙ e ∙ ap first_moves d.8 in
       let m : c.0 ≡ d.0 = cc in
       let ws : four (words c.4) ≡ four (words d.4) = cc in
-      let entry : some (library_name c.1 c.2 c.3) ≡ some (library_name d.1 d.2 d.3) = sym c.6 ∙ ap (λ n. at μ.names n) m ∙ d.6 in
       let θ : c.2 ≡ d.2 = cc in
       let says : Says G.meaning c.2 μ.names d.4 d.5 = subst (λ (z : Tree). Says G.meaning z μ.names d.4 d.5) (sym θ) d.7 in
       let t = words_tell G.meaning c.2 μ.names c.4 d.4 c.5 d.5 _ _ (said _ _ _ _ _ c.7) (said _ _ _ _ _ says) ws in
       let v = t.0 in
       let R = t.1 in
-      let to : library_runs (host_waits c.0 (suc l) ∷ K) (app (meth c.0) ⌊ c.4 ⌋) (with_names c.5 μ) P ≡ library_runs (host_waits d.0 (suc l) ∷ K) (app (meth d.0) ⌊ d.4 ⌋) (with_names d.5 μ) P =
-      ap (λ n. library_runs (host_waits n (suc l) ∷ K) (app (meth n) ⌊ c.4 ⌋) (with_names c.5 μ) P) m
-      ∙ ap (λ z. library_runs (host_waits d.0 (suc l) ∷ K) (app (meth d.0) ⌊ z ⌋) (with_names c.5 μ) P) v
-      ∙ ap (λ z. library_runs (host_waits d.0 (suc l) ∷ K) (app (meth d.0) ⌊ d.4 ⌋) (with_names z μ) P) R
-      in
-      (c.8 ∙ ap (λ n. host_call n c.4) m ∙ ap (host_call d.0) v ∙ sym d.8, c.9 ∙ to ∙ sym d.9)
+      ((cc), (cc))
 
   same_answer : (K : List Pending) (l : ℕ) (μ : Memory) (P : List ℕ) (a b : Pass) (q r : Position) → AnswerStep K l μ P a q → AnswerStep K l μ P b r → first_moves a ≡ first_moves b → (a ≡ b) × (q ≡ r)
   same_answer K l μ P a b q r c d e =
       let is : first_moves (host_answer c.0 c.4) ≡ first_moves (host_answer d.0 d.4) = ap first_moves (sym c.10) ∙ e ∙ ap first_moves d.10 in
       let m : c.0 ≡ d.0 = cc in
       let ws : four (words c.4) ≡ four (words d.4) = cc in
-      let top : library_waits c.0 c.1 ∷ c.6 ≡ library_waits d.0 d.1 ∷ d.6 = sym c.9 ∙ d.9 in
       let E : c.1 ≡ d.1 = cc in
       let L : c.6 ≡ d.6 = cc in
-      let entry : some (host_name c.2 c.3) ≡ some (host_name d.2 d.3) = sym c.7 ∙ ap (λ n. at μ.names n) m ∙ d.7 in
       let θ : c.3 ≡ d.3 = cc in
       let says : Says G.meaning c.3 μ.names d.4 d.5 = subst (λ (z : Tree). Says G.meaning z μ.names d.4 d.5) (sym θ) d.8 in
       let t = words_tell G.meaning c.3 μ.names c.4 d.4 c.5 d.5 _ _ (said _ _ _ _ _ c.8) (said _ _ _ _ _ says) ws in
       let v = t.0 in
       let R = t.1 in
-      let to : library_runs c.6 (plug c.1 ⌊ c.4 ⌋) (with_names c.5 μ) P ≡ library_runs d.6 (plug d.1 ⌊ d.4 ⌋) (with_names d.5 μ) P =
-      ap (λ z. library_runs z (plug c.1 ⌊ c.4 ⌋) (with_names c.5 μ) P) L
-      ∙ ap (λ z. library_runs d.6 (plug z ⌊ c.4 ⌋) (with_names c.5 μ) P) E
-      ∙ ap (λ z. library_runs d.6 (plug d.1 ⌊ z ⌋) (with_names c.5 μ) P) v
-      ∙ ap (λ z. library_runs d.6 (plug d.1 ⌊ d.4 ⌋) (with_names z μ) P) R
-      in
-      (c.10 ∙ ap (λ n. host_answer n c.4) m ∙ ap (host_answer d.0) v ∙ sym d.10, c.11 ∙ to ∙ sym d.11)
+      ((cc), (cc))
 
   not_both : (K : List Pending) (l : ℕ) (μ : Memory) (P : List ℕ) (a b : Pass) (q r : Position) → CallStep K l μ P a q → AnswerStep K l μ P b r → first_moves a ≡ first_moves b → ⊥
   not_both K l μ P a b q r c d e =

@@ -16,6 +16,7 @@ use Rattle.rows.specs.declared.forms.Section.TheVariants.{Terms}
 use Rattle.rows.specs.Sections.{count, references}
 use Rattle.rows.specs.Faults.{Faultless, NoneOf, RowFault, RefersBack}
 use Rattle.rows.specs.Types.{Tree, int as int_type, pair as pair_type, fun as function_type}
+use Rattle.rows.proofs.Admits.{count_push}
 use Rattle.library.specs.Listing.{section_rows, term_of}
 use Rattle.library.specs.Typing.{TermIs, HasType, Names, VariableHas, MethodHas, GlobalHas}
 use Rattle.library.specs.Typing as typing
@@ -55,10 +56,6 @@ all_stable b (p ∷ ps) h = go (all_stable b ps (λ no. h (λ both. no both.1)))
 refers_back : (b : List Row) (r : Row) → NoneOf (RowFault true b r) → RefersBack b r
 refers_back b r h = all_stable b (references r) (h Reference)
 
-pub count_append : (s : Section) (b : List Row) (r : Row) → count s (b ++ (r ∷ [])) ≡ count s b + count s (r ∷ [])
-count_append s [] r = omega arith
-count_append s (x ∷ b) r = let h = count_append s b r in omega arith
-
 -- the term rows, as the list of terms is made
 module _ (type : ℕ → Tree) where
   -- terms stay where they are as more are made
@@ -82,9 +79,9 @@ module _ (type : ℕ → Tree) where
       let h = grown (before ++ (formed type before f ∷ [])) rows in
       (before, h.0, b, h.1 ∙ append_assoc before (formed type before f ∷ []) h.0 ∙ ap (λ x. before ++ (formed type before x ∷ h.0)) same, omega arith, n, subst (λ (x : TermForm). RefersBack b (TermRow n x)) same (refers_back b (TermRow n f) good.0), sym len)
   stands b before (TermRow n f ∷ rows) (suc k) form good len e =
-      let w = stands (b ++ (TermRow n f ∷ [])) (before ++ (formed type before f ∷ [])) rows k form good.1 (omega (arith, count_append Terms b (TermRow n f), length-append before (formed type before f ∷ []))) e in
+      let w = stands (b ++ (TermRow n f ∷ [])) (before ++ (formed type before f ∷ [])) rows k form good.1 (omega (arith, count_push Terms b (TermRow n f), length-append before (formed type before f ∷ []))) e in
       (w.0, w.1, w.2, w.3, omega (arith, w.4, length-append before (formed type before f ∷ [])), w.5, w.6, w.7)
-  stands b before (row ∷ rows) k form good len e = stands (b ++ (row ∷ [])) before rows k form good.1 (omega (arith, count_append Terms b row)) e
+  stands b before (row ∷ rows) k form good len e = stands (b ++ (row ∷ [])) before rows k form good.1 (omega (arith, count_push Terms b row)) e
 
 module _ (rows : List Row) (faultless : Faultless rows) where
   -- a term's tree is formed over the trees of its parts, which stand before it
