@@ -28,32 +28,15 @@ said A θ R v R' rule.says_function = (refl, refl)
 
 -- the words that begin a list tell the value at a type
 words_tell : (A : Meaning) (θ : Tree) (R : List Entry) (v w : Value) (R' R'' : List Entry) (x y : List ℤ) → Said A θ R v R' → Said A θ R w R'' → words v ++ x ≡ words w ++ y → (v ≡ w) × (R' ≡ R'') × (x ≡ y)
-words_tell A unit_type R v w R' R'' x y h k e =
-    let a = h.0 in
-    let b = k.0 in
-    let d : words unit ++ x ≡ words unit ++ y = ap (λ z. words z ++ x) (sym a) ∙ e ∙ ap (λ z. words z ++ y) b in
-    (a ∙ sym b, h.1 ∙ sym k.1, (cc))
-words_tell A int_type R v w R' R'' x y h k e =
-    let a = h.1 in
-    let b = k.1 in
-    let d : h.0 ∷ x ≡ k.0 ∷ y = ap (λ z. words z ++ x) (sym a) ∙ e ∙ ap (λ z. words z ++ y) b in
-    let s : h.0 ≡ k.0 = cc in
-    (a ∙ ap word s ∙ sym b, h.2 ∙ sym k.2, (cc))
+words_tell A unit_type R v w R' R'' x y h k e = let d = rw (h.0, k.0) at e in ((cc), (cc), (cc))
+words_tell A int_type R v w R' R'' x y h k e = let d = rw (h.1, k.1) at e in ((cc), (cc), (cc))
 words_tell A (pair_type θ θ') R v w R' R'' x y h k e =
-    let d : words h.0 ++ (words h.1 ++ x) ≡ words k.0 ++ (words k.1 ++ y) =
-    sym (append_assoc (words h.0) (words h.1) x) ∙ ap (λ z. words z ++ x) (sym h.5) ∙ e ∙ ap (λ z. words z ++ y) k.5 ∙ append_assoc (words k.0) (words k.1) y
-    in
+    let d = simp append_assoc at (rw (h.5, k.5) at e) in
     let first = words_tell A θ R h.0 k.0 h.2 k.2 _ _ (said A θ R _ _ h.3) (said A θ R _ _ k.3) d in
     let right : Says A θ' h.2 k.1 R'' = subst (λ (z : List Entry). Says A θ' z k.1 R'') (sym first.1) k.4 in
     let second = words_tell A θ' h.2 h.1 k.1 R' R'' x y (said A θ' h.2 _ _ h.4) (said A θ' h.2 _ _ right) first.2 in
-    let p = first.0 in
-    let q = second.0 in
-    (h.5 ∙ ap (λ z. pair z h.1) p ∙ ap (pair k.0) q ∙ sym k.5, second.1, second.2)
-words_tell A (function_type θ θ') R v w R' R'' x y h k e =
-    let a = h.0 in
-    let b = k.0 in
-    let d : words (name (length R)) ++ x ≡ words (name (length R)) ++ y = ap (λ z. words z ++ x) (sym a) ∙ e ∙ ap (λ z. words z ++ y) b in
-    (a ∙ sym b, h.1 ∙ sym k.1, (cc))
+    ((cc), second.1, second.2)
+words_tell A (function_type θ θ') R v w R' R'' x y h k e = let d = rw (h.0, k.0) at e in ((cc), (cc), (cc))
 
 -- a host move as a pass
 abbrev pub first_moves : Pass → List Move
@@ -147,13 +130,14 @@ module _ (G : Game) where
   -- two passes from a position that make the same host moves, with what follows, are the same
   pub one_pass : (p q r : Position) (a b : Pass) (x y : List Pass) → G ⊢ p ─ some a ⟹ q → G ⊢ p ─ some b ⟹ r → host_moves (a ∷ x) ≡ host_moves (b ∷ y) → (a ≡ b) × (q ≡ r)
   one_pass (library_runs K M μ P) q r a b x y h k e =
-      let s : hands a q ≡ hands b r = sym (step_next G (library_runs K M μ P) q (some a) h) ∙ step_next G (library_runs K M μ P) r (some b) k in
+      let s = step_next G (library_runs K M μ P) q (some a) h in
+      let s' = step_next G (library_runs K M μ P) r (some b) k in
       ((cc), (cc))
   one_pass (host_turn K l μ P) q r a b x y h k e =
       let c = host_step (host_turn K l μ P) q (some a) h in
       let d = host_step (host_turn K l μ P) r (some b) k in
-      let i : c.0 ≡ a = (let s = c.1 in cc) in
-      let j : d.0 ≡ b = (let s = d.1 in cc) in
+      let i : c.0 ≡ a = cc in
+      let j : d.0 ≡ b = cc in
       let c' : HostStep K l μ P a q = subst (λ (z : Pass). HostStep K l μ P z q) i c.2 in
       let d' : HostStep K l μ P b r = subst (λ (z : Pass). HostStep K l μ P z r) j d.2 in
       let v = one_move K l μ P a q c' in
@@ -167,13 +151,15 @@ module _ (G : Game) where
   -- a step inside the library is the only one
   pub one_inside : (p q r : Position) → G ⊢ p ─ none ⟹ q → G ⊢ p ─ none ⟹ r → q ≡ r
   one_inside (library_runs K M μ P) q r h k =
-      let s : goes_on q ≡ goes_on r = sym (step_next G (library_runs K M μ P) q none h) ∙ step_next G (library_runs K M μ P) r none k in
+      let s = step_next G (library_runs K M μ P) q none h in
+      let s' = step_next G (library_runs K M μ P) r none k in
       cc
   one_inside (host_turn K l μ P) q r h k = elim h [ ]
 
   pub inside_no_pass : (p q r : Position) (a : Pass) → G ⊢ p ─ none ⟹ q → G ⊢ p ─ some a ⟹ r → ⊥
   inside_no_pass (library_runs K M μ P) q r a h k =
-      let s : goes_on q ≡ hands a r = sym (step_next G (library_runs K M μ P) q none h) ∙ step_next G (library_runs K M μ P) r (some a) k in
+      let s = step_next G (library_runs K M μ P) q none h in
+      let s' = step_next G (library_runs K M μ P) r (some a) k in
       cc
   inside_no_pass (host_turn K l μ P) q r a h k = elim h [ ]
 
@@ -196,7 +182,7 @@ module _ (G : Game) where
   pub pass_moves : (K : List Pending) (l : ℕ) (μ : Memory) (P : List ℕ) (q : Position) (a : Pass) (x : List Pass) → G ⊢ host_turn K l μ P ─ some a ⟹ q → [] ≡ host_moves (a ∷ x) → ⊥
   pass_moves K l μ P q a x h none_made =
       let c = host_step (host_turn K l μ P) q (some a) h in
-      let i : c.0 ≡ a = (let d = c.1 in cc) in
+      let i : c.0 ≡ a = cc in
       let v = one_move K l μ P c.0 q c.2 in
       let all : [] ≡ v.0 ∷ host_moves x = none_made ∙ moves_first a x ∙ ap (λ y. first_moves y ++ host_moves x) (sym i) ∙ ap (λ y. y ++ host_moves x) v.1 in
       cc
@@ -249,7 +235,7 @@ module _ (G : Game) where
       let one = one_pass p r r' a a' y y' g g' d in
       let moves : host_moves y ≡ host_moves y' = cancel a y y' (d ∙ ap (λ z. host_moves (z ∷ y')) (sym one.0)) in
       let more = alike r q q' (suc t) u u' y y' e e' s s' run h (subst (λ (z : Position). Run G z (suc t) y' q' u') (sym one.1) run') k moves in
-      (ap (λ z. z ∷ y) one.0 ∙ ap (λ z. a' ∷ z) more.0, more.1, more.2)
+      ((cc), more.1, more.2)
 
 pub moves_determine_the_play : MovesDetermineThePlay
 moves_determine_the_play G moves x y =

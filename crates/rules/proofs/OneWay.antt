@@ -48,9 +48,7 @@ first_difference [] (m ∷ v) a b c d p q r s x y f g = absurd (f (cc))
 first_difference (m ∷ u) [] a b c d p q r s x y f g = absurd (g (cc))
 first_difference (m ∷ u) (n ∷ v) a b c d p q r s x y f g =
     let w = first_difference u v a b c d p q r s (cc) (cc) f g in
-    let same = w.0 in
-    let k : m ≡ n = cc in
-    (ap (λ z. z ∷ u) k ∙ ap (λ z. n ∷ z) same, w.1, w.2)
+    ((cc), w.1, w.2)
 
 module _ (G : Game) (list : WordList) (law : Listed G.meaning list) where
   -- of two values, not each comes before the other by its words

@@ -79,7 +79,6 @@ module _ (G : Game) (list : WordList) (law : Listed G.meaning list) (plays : Lis
           again (inl lt) = absurd (before_one_way G list law x y b (in_order_at (Before G list) xs up k i y x lt e d))
           again (inr ge) =
               let same : i ≡ k = omega arith in
-              let alike : some x ≡ some y = sym d ∙ ap (at xs) same ∙ e in
               let one : x ≡ y = cc in
               absurd (before_one_way G list law x y b (subst (λ (z : List Move). Before G list y z) (sym one) (subst (λ (z : List Move). Before G list z y) one b)))
 
@@ -120,7 +119,6 @@ module _ (G : Game) (list : WordList) (law : Listed G.meaning list) (plays : Lis
         end k e (inl lt) high = inr (in_order_at (Before G list) xs up k j moves to lt e last)
         end k e (inr ge) high =
             let same : k ≡ j = omega arith in
-            let alike : some moves ≡ some to = sym e ∙ ap (at xs) same ∙ last in
             inl (cc)
 
     -- so they count the full plays in the range

@@ -34,7 +34,7 @@ first_feed (x ∷ xs) (y ∷ ys) t u h k e =
     let heads : x ≡ y = cc in
     let tails : xs ++ (10 ∷ t) ≡ ys ++ (10 ∷ u) = cc in
     let p = first_feed xs ys t u h.1 k.1 tails in
-    ((λ i. heads i ∷ p.0 i), p.1)
+    ((cc), p.1)
 
 commas_lack : (fs : List (List ℕ)) → AllByRecursion Free fs → Lacks 10 (commas fs)
 commas_lack [] h = tt
@@ -96,25 +96,19 @@ module _ (A : Meaning) (closed : Closed A) where
 
   -- the leaves tell the value at a type
   leaves_tell : (θ : Tree) (R : List Entry) (v w : Value) (R' R'' : List Entry) (x y : List (List ℕ)) → Said A θ R v R' → Said A θ R w R'' → Sayable v → Sayable w → leaf_fields v ++ x ≡ leaf_fields w ++ y → (v ≡ w) × (R' ≡ R'') × (x ≡ y)
-  leaves_tell unit_type R v w R' R'' x y h k i j e =
-      let d : leaf_fields unit ++ x ≡ leaf_fields unit ++ y = ap (λ z. leaf_fields z ++ x) (sym h.0) ∙ e ∙ ap (λ z. leaf_fields z ++ y) k.0 in
-      (h.0 ∙ sym k.0, h.1 ∙ sym k.1, (cc))
+  leaves_tell unit_type R v w R' R'' x y h k i j e = let d = rw (h.0, k.0) at e in ((cc), (cc), (cc))
   leaves_tell int_type R v w R' R'' x y h k i j e =
-      let d : signed_decimal h.0 ∷ x ≡ signed_decimal k.0 ∷ y = ap (λ z. leaf_fields z ++ x) (sym h.1) ∙ e ∙ ap (λ z. leaf_fields z ++ y) k.1 in
+      let d = rw (h.1, k.1) at e in
       let one : signed_decimal h.0 ≡ signed_decimal k.0 = cc in
       let s = same_signed h.0 k.0 (fits h.0 (subst Sayable h.1 i)) (fits k.0 (subst Sayable k.1 j)) one in
-      (h.1 ∙ ap word s ∙ sym k.1, h.2 ∙ sym k.2, (cc))
+      ((cc), (cc), (cc))
   leaves_tell (pair_type θ θ') R v w R' R'' x y h k i j e =
-      let d : leaf_fields h.0 ++ (leaf_fields h.1 ++ x) ≡ leaf_fields k.0 ++ (leaf_fields k.1 ++ y) =
-      sym (append_assoc (leaf_fields h.0) (leaf_fields h.1) x) ∙ ap (λ z. leaf_fields z ++ x) (sym h.5) ∙ e ∙ ap (λ z. leaf_fields z ++ y) k.5 ∙ append_assoc (leaf_fields k.0) (leaf_fields k.1) y
-      in
+      let d = simp append_assoc at (rw (h.5, k.5) at e) in
       let first = leaves_tell θ R h.0 k.0 h.2 k.2 _ _ (said A θ R _ _ h.3) (said A θ R _ _ k.3) (sayable θ R _ _ h.3) (sayable θ R _ _ k.3) d in
       let right : Says A θ' h.2 k.1 R'' = subst (λ (z : List Entry). Says A θ' z k.1 R'') (sym first.1) k.4 in
       let second = leaves_tell θ' h.2 h.1 k.1 R' R'' x y (said A θ' h.2 _ _ h.4) (said A θ' h.2 _ _ right) (sayable θ' _ _ _ h.4) (sayable θ' _ _ _ k.4) first.2 in
-      (h.5 ∙ ap (λ z. pair z h.1) first.0 ∙ ap (pair k.0) second.0 ∙ sym k.5, second.1, second.2)
-  leaves_tell (function_type θ θ') R v w R' R'' x y h k i j e =
-      let d : leaf_fields (name (length R)) ++ x ≡ leaf_fields (name (length R)) ++ y = ap (λ z. leaf_fields z ++ x) (sym h.0) ∙ e ∙ ap (λ z. leaf_fields z ++ y) k.0 in
-      (h.0 ∙ sym k.0, h.1 ∙ sym k.1, (cc))
+      ((cc), second.1, second.2)
+  leaves_tell (function_type θ θ') R v w R' R'' x y h k i j e = let d = rw (h.0, k.0) at e in ((cc), (cc), (cc))
 
 host_free : Free (codes "H")
 host_free = omega arith
@@ -189,14 +183,15 @@ module _ (G : Game) (closed : Closed G.meaning) where
   -- two passes from a position whose lines begin the same text
   pass_told : (p q r : Position) (a b : Pass) (x y : List ℕ) → Few p → Few q → Few r → G ⊢ p ─ some a ⟹ q → G ⊢ p ─ some b ⟹ r → line_of (pass_fields a) ++ x ≡ line_of (pass_fields b) ++ y → (a ≡ b) × (q ≡ r) × (x ≡ y)
   pass_told (library_runs K M μ P) q r a b x y few fq fr h k e =
-      let s : hands a q ≡ hands b r = sym (step_next G (library_runs K M μ P) q (some a) h) ∙ step_next G (library_runs K M μ P) r (some b) k in
+      let s = step_next G (library_runs K M μ P) q (some a) h in
+      let s' = step_next G (library_runs K M μ P) r (some b) k in
       let same : a ≡ b = cc in
       (same, (cc), append_cancel_left (line_of (pass_fields a)) x y (e ∙ ap (λ z. line_of (pass_fields z) ++ y) (sym same)))
   pass_told (host_turn K l μ P) q r a b x y few fq fr h k e =
       let c = host_step G (host_turn K l μ P) q (some a) h in
       let d = host_step G (host_turn K l μ P) r (some b) k in
-      let i : c.0 ≡ a = (let s = c.1 in cc) in
-      let j : d.0 ≡ b = (let s = d.1 in cc) in
+      let i : c.0 ≡ a = cc in
+      let j : d.0 ≡ b = cc in
       let told = host_told K l μ P a b q r x y few fq fr (subst (λ (z : Pass). HostStep G K l μ P z q) i c.2) (subst (λ (z : Pass). HostStep G K l μ P z r) j d.2) e in
       let one = one_pass G (host_turn K l μ P) q r a b [] [] h k (ap (λ z. host_moves (z ∷ [])) told.0) in
       (told.0, one.1, told.1)
@@ -224,9 +219,9 @@ module _ (G : Game) (closed : Closed G.meaning) where
   same_trace p q q' t u u' x x' e e' s s' few (play.passes {q = r} {a = a} {trace = y} lt g run) h (play.passes {q = r'} {a = a'} {trace = y'} lt' g' run') k d =
       let told = pass_told p r r' a a' _ _ (few [] p t play.stays) (few (a ∷ []) r (suc t) (play.passes lt g play.stays)) (few (a' ∷ []) r' (suc t) (play.passes lt' g' play.stays)) g g' d in
       let more = same_trace r q q' (suc t) u u' y y' e e' s s' (λ tr z w m. few (a ∷ tr) z w (play.passes lt g m)) run h (subst (λ (z : Position). Run G z (suc t) y' q' u') (sym told.1) run') k told.2 in
-      ap (λ z. z ∷ y) told.0 ∙ ap (λ z. a' ∷ z) more
+      cc
 
 pub listings_tell_plays : ListingsTellPlays
 listings_tell_plays G playable moves others x y d =
     let same = same_trace G playable.closed _ _ _ 0 _ _ x.trace y.trace x.ending y.ending x.steps y.steps (playable_has_few_names G playable) x.play.run x.play.ends y.play.run y.play.ends d in
-    sym x.moved ∙ ap host_moves same ∙ y.moved
+    cc
