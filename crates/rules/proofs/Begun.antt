@@ -68,7 +68,7 @@ tree_small ts (FunType a b) h k = (h a, h b)
 types_small : (b : List Row) (ts : List Tree) (rows : List Row) → EachGood b rows → types_after [] b ≡ ts → AllSmall ts → AllSmall (types_after ts rows)
 types_small b ts [] good e h = h
 types_small b ts (TypeRow n f ∷ rows) good e h =
-    let few : leaves (tree ts f) ≤ 4 = subst (λ (x : List Tree). leaves (tree x f) ≤ 4) e (limits_stable b (TypeRow n f) good.0).1 in
+    let few : leaves (tree ts f) ≤ 4 = rw e at (limits_stable b (TypeRow n f) good.0).1 in
     types_small (b ++ (TypeRow n f ∷ [])) (ts ++ (tree ts f ∷ [])) rows good.1 (types_push [] b (TypeRow n f) ∙ ap (λ x. x ++ (tree x f ∷ [])) e) (small_push ts (tree ts f) h (tree_small ts f h few))
 types_small b ts (row ∷ rows) good e h = types_small (b ++ (row ∷ [])) ts rows good.1 (types_push [] b row ∙ e) h
 
@@ -159,13 +159,13 @@ module _ (rows : List Row) (A : Meaning) (mounted : Mounted rows) (lawful : Lawf
       (λ x θ h. sym (ap (listed_type rows) (variable_known rows x h.number h.is) ∙ get_or_from_slice_get (types rows) h.number θ unit_type h.named))
       lawful e _ c.typed [] (λ x f. absurd (c.closed x f))
       in
-      let k = subst (λ (X : Term). Typed V Γ A Σ [] X (function_type c.typed_as.argument c.typed_as.result)) w.1 typed in
+      let k = rw w.1 at typed in
       (c.variable, get_or w.0 c.body ⟨⟩, w.1, (k.1, get_or_from_slice_get (types rows) t _ unit_type c.typed_as.named ∙ k.2, refl, k.3))
 
   closed_entry : (t e : ℕ) → ClosedFunction rows t e → EntryOk V Γ A Σ (method_body (begins (unfolded rows e))) (listed_type rows t)
   closed_entry t e c =
       let k = closed_tree t e c in
-      subst (λ (X : Term). EntryOk V Γ A Σ (method_body (begins X)) (listed_type rows t)) (sym k.2) k.3
+      rw k.2 k.3
 
   function_entry : (θ a r : Tree) → θ ≡ function_type a r → Small θ → EntryOk V Γ A Σ (host_name (argument θ) (result θ)) θ
   function_entry θ a r e s = subst (λ (y : Tree). Small y → EntryOk V Γ A Σ (host_name (argument y) (result y)) y) (sym e) (λ k. (refl, k.0, k.1)) s
@@ -198,13 +198,13 @@ module _ (rows : List Row) (A : Meaning) (mounted : Mounted rows) (lawful : Lawf
   global_begun : (t e : ℕ) (μ : Memory) (done : List Tree) → GlobalRule rows t e → Begun μ done → Begun (with_beginning (begins (unfolded rows e)) μ) (done ++ (listed_type rows t ∷ []))
   global_begun t e μ done (inl c) b =
       let w = form_at rows mounted.faultless e (Num c.word) c.num in
-      subst (λ (X : Term). Begun (with_beginning (begins X) μ) (done ++ (listed_type rows t ∷ []))) (sym w.1) (word_begun μ done (listed_type rows t) c.word (get_or_from_slice_get (types rows) t int_type unit_type c.int_type) (lawful e c.word c.num) b)
+      rw w.1 (word_begun μ done (listed_type rows t) c.word (get_or_from_slice_get (types rows) t int_type unit_type c.int_type) (lawful e c.word c.num) b)
   global_begun t e μ done (inr c) b =
       let k = closed_tree t e c in
-      subst (λ (X : Term). Begun (with_beginning (begins X) μ) (done ++ (listed_type rows t ∷ []))) (sym k.2) (function_begun μ done (listed_type rows t) (library_name k.0 (V k.0) k.1) k.3 b)
+      rw k.2 (function_begun μ done (listed_type rows t) (library_name k.0 (V k.0) k.1) k.3 b)
 
   globals_begun : (rs : List Row) (μ : Memory) (done : List Tree) → ((n t e : ℕ) → Memᴰ (GlobalRow n t e) rs → GlobalRule rows t e) → Begun μ done → Begun (with_globals rows rs μ) (done ++ global_types rows rs)
-  globals_begun [] μ done h b = subst (λ (x : List Tree). Begun μ x) (sym (append-nil done)) b
+  globals_begun [] μ done h b = rw (← (append-nil done)) at b
   globals_begun (GlobalRow n t e ∷ rs) μ done h b =
       subst (λ (x : List Tree). Begun (with_globals rows rs (with_beginning (begins (unfolded rows e)) μ)) x) (append_assoc done (listed_type rows t ∷ []) (global_types rows rs))
       (globals_begun rs (with_beginning (begins (unfolded rows e)) μ) (done ++ (listed_type rows t ∷ [])) (λ m u x i. h m u x (Memᴰ.tail i)) (global_begun t e μ done (h n t e (Memᴰ.head refl)) b))

@@ -33,7 +33,7 @@ words_tell A int_type R v w R' R'' x y h k e = let d = rw (h.1, k.1) at e in ((c
 words_tell A (pair_type θ θ') R v w R' R'' x y h k e =
     let d = simp append_assoc at (rw (h.5, k.5) at e) in
     let first = words_tell A θ R h.0 k.0 h.2 k.2 _ _ (said A θ R _ _ h.3) (said A θ R _ _ k.3) d in
-    let right : Says A θ' h.2 k.1 R'' = subst (λ (z : List Entry). Says A θ' z k.1 R'') (sym first.1) k.4 in
+    let right : Says A θ' h.2 k.1 R'' = rw (← first.1) at k.4 in
     let second = words_tell A θ' h.2 h.1 k.1 R' R'' x y (said A θ' h.2 _ _ h.4) (said A θ' h.2 _ _ right) first.2 in
     ((cc), second.1, second.2)
 words_tell A (function_type θ θ') R v w R' R'' x y h k e = let d = rw (h.0, k.0) at e in ((cc), (cc), (cc))
@@ -96,7 +96,7 @@ module _ (G : Game) where
       let m : c.0 ≡ d.0 = cc in
       let ws : four (words c.4) ≡ four (words d.4) = cc in
       let θ : c.2 ≡ d.2 = cc in
-      let says : Says G.meaning c.2 μ.names d.4 d.5 = subst (λ (z : Tree). Says G.meaning z μ.names d.4 d.5) (sym θ) d.7 in
+      let says : Says G.meaning c.2 μ.names d.4 d.5 = rw (← θ) at d.7 in
       let t = words_tell G.meaning c.2 μ.names c.4 d.4 c.5 d.5 _ _ (said _ _ _ _ _ c.7) (said _ _ _ _ _ says) ws in
       let v = t.0 in
       let R = t.1 in
@@ -110,7 +110,7 @@ module _ (G : Game) where
       let E : c.1 ≡ d.1 = cc in
       let L : c.6 ≡ d.6 = cc in
       let θ : c.3 ≡ d.3 = cc in
-      let says : Says G.meaning c.3 μ.names d.4 d.5 = subst (λ (z : Tree). Says G.meaning z μ.names d.4 d.5) (sym θ) d.8 in
+      let says : Says G.meaning c.3 μ.names d.4 d.5 = rw (← θ) at d.8 in
       let t = words_tell G.meaning c.3 μ.names c.4 d.4 c.5 d.5 _ _ (said _ _ _ _ _ c.8) (said _ _ _ _ _ says) ws in
       let v = t.0 in
       let R = t.1 in
@@ -138,8 +138,8 @@ module _ (G : Game) where
       let d = host_step (host_turn K l μ P) r (some b) k in
       let i : c.0 ≡ a = cc in
       let j : d.0 ≡ b = cc in
-      let c' : HostStep K l μ P a q = subst (λ (z : Pass). HostStep K l μ P z q) i c.2 in
-      let d' : HostStep K l μ P b r = subst (λ (z : Pass). HostStep K l μ P z r) j d.2 in
+      let c' : HostStep K l μ P a q = rw i at c.2 in
+      let d' : HostStep K l μ P b r = rw j at d.2 in
       let v = one_move K l μ P a q c' in
       let w = one_move K l μ P b r d' in
       let all : v.0 ∷ host_moves x ≡ w.0 ∷ host_moves y =
@@ -227,14 +227,14 @@ module _ (G : Game) where
   alike p q q' t u u' x x' e e' s s' play.stays h (play.passes {q = r} {a = a} {trace = y} lt g run) k d = absurd (ended_pass p r t e s a y h lt g d)
   alike p q q' t u u' x x' e e' s s' (play.inside {q = r} lt g run) h play.stays k d = absurd (ended_no_inside p r t e' s' k lt g)
   alike p q q' t u u' x x' e e' s s' (play.inside {q = r} lt g run) h (play.inside {q = r'} lt' g' run') k d =
-      alike r q q' (suc t) u u' x x' e e' s s' run h (subst (λ (z : Position). Run G z (suc t) x' q' u') (one_inside p r' r g' g) run') k d
+      alike r q q' (suc t) u u' x x' e e' s s' run h (rw (one_inside p r' r g' g) at run') k d
   alike p q q' t u u' x x' e e' s s' (play.inside {q = r} lt g run) h (play.passes {q = r'} {a = a} lt' g' run') k d = absurd (inside_no_pass p r r' a g g')
   alike p q q' t u u' x x' e e' s s' (play.passes {q = r} {a = a} {trace = y} lt g run) h play.stays k d = absurd (ended_pass p r t e' s' a y k lt g (sym d))
   alike p q q' t u u' x x' e e' s s' (play.passes {q = r} {a = a} lt g run) h (play.inside {q = r'} lt' g' run') k d = absurd (inside_no_pass p r' r a g' g)
   alike p q q' t u u' x x' e e' s s' (play.passes {q = r} {a = a} {trace = y} lt g run) h (play.passes {q = r'} {a = a'} {trace = y'} lt' g' run') k d =
       let one = one_pass p r r' a a' y y' g g' d in
       let moves : host_moves y ≡ host_moves y' = cancel a y y' (d ∙ ap (λ z. host_moves (z ∷ y')) (sym one.0)) in
-      let more = alike r q q' (suc t) u u' y y' e e' s s' run h (subst (λ (z : Position). Run G z (suc t) y' q' u') (sym one.1) run') k moves in
+      let more = alike r q q' (suc t) u u' y y' e e' s s' run h (rw (← one.1) at run') k moves in
       ((cc), more.1, more.2)
 
 pub moves_determine_the_play : MovesDetermineThePlay

@@ -128,7 +128,7 @@ module _ (A : Meaning) where
   complete c d (rule.leave E v) = taken E (leave! v) _ _ _ refl
 
   to_other : (c : State) {d d' : State} → A ⊢ c ⟶ d → some d ≡ some d' → A ⊢ c ⟶ d'
-  to_other c h e = subst (λ (x : State). A ⊢ c ⟶ x) (some-injective _ _ e) h
+  to_other c h e = rw (some-injective _ _ e) at h
 
   by_read : (E : Context) (r : ℕ) (μ : Memory) (d : State) (o : Option Value) → at μ.globals r ≡ o → within A E (reading o μ) ≡ some d → A ⊢ plug E (get r) ∣ μ ⟶ d
   by_read E r μ d none q e = absurd (none-ne-some _ e)
@@ -162,7 +162,7 @@ module _ (A : Meaning) where
 
   of_parts : (M : Term) (μ : Memory) (d : State) (s : Parts) → MadeOf M s → stepped A s μ ≡ some d → A ⊢ M ∣ μ ⟶ d
   of_parts M μ d (value v) h e = absurd (none-ne-some _ e)
-  of_parts M μ d (redex E r) h e = subst (λ (X : Term). A ⊢ X ∣ μ ⟶ d) h (of_redex E r μ d e)
+  of_parts M μ d (redex E r) h e = rw h at (of_redex E r μ d e)
   of_parts M μ d neither h e = absurd (none-ne-some _ e)
 
   sound : (c d : State) → next A c ≡ some d → A ⊢ c ⟶ d

@@ -127,7 +127,7 @@ module _ (G : Game) where
 
     by_replies : (left t : ℕ) (K : List Pending) (l : ℕ) (μ : Memory) (P : List ℕ) (rs : List Reply) → replies G list K l μ P ≡ rs → t < G.bounds.steps → Rest left (suc t) → (trace : List Pass) (e : Ending) (s : ℕ) → Memᴰ (played trace e s) (at_turn (plays_from G list left (suc t)) t rs) → FullFrom G (host_turn K l μ P) t trace e s
     by_replies left t K l μ P [] d lt rest trace e s i =
-        lone (host_turn K l μ P) t turn t (here (host_turn K l μ P) t turn t (play.hands_over lt) (λ x a q h. nothing a q (subst (λ (rs : List Reply). Memᴰ (reply a q) rs) d (move_listed G list law (host_turn K l μ P) q (some a) a h refl)))) trace e s i
+        lone (host_turn K l μ P) t turn t (here (host_turn K l μ P) t turn t (play.hands_over lt) (λ x a q h. nothing a q (rw d at (move_listed G list law (host_turn K l μ P) q (some a) a h refl)))) trace e s i
       where
         nothing : (a : Pass) (q : Position) → Memᴰ (reply a q) [] → ⊥
         nothing a q j = Memᴰ.not-nil j

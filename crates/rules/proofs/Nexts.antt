@@ -101,8 +101,8 @@ module _ (G : Game) where
   answer_so (host_waits m l ∷ K) μ P v = rule.library_answers m l v
 
   parts_so : (K : List Pending) (M : Term) (μ : Memory) (P : List ℕ) (s : Parts) → MadeOf M s → IsSo (library_runs K M μ P) (next_by G K s μ P)
-  parts_so K M μ P (value v) h = subst (λ (X : Term). IsSo (library_runs K X μ P) (answering K v μ P)) h (answer_so K μ P v)
-  parts_so K M μ P (redex E r) h = subst (λ (X : Term). IsSo (library_runs K X μ P) (continued G K E (contract G.meaning r μ) μ P)) h (redex_so K μ P E r)
+  parts_so K M μ P (value v) h = rw h at (answer_so K μ P v)
+  parts_so K M μ P (redex E r) h = rw h at (redex_so K μ P E r)
   parts_so K M μ P neither h = tt
 
   pub next_so : (K : List Pending) (M : Term) (μ : Memory) (P : List ℕ) → IsSo (library_runs K M μ P) (library_next G K M μ P)

@@ -33,12 +33,12 @@ module _ (G : Game) where
   same_turn p K K' l l' μ μ' P P' t u u' x x' (play.inside {q = r} lt h run) play.stays e = elim h [ ]
   same_turn p K K' l l' μ μ' P P' t u u' x x' (play.passes {q = r} {a = a} {trace = y} lt h run) play.stays e = absurd (pass_moves G K' l' μ' P' r a y h (sym e))
   same_turn p K K' l l' μ μ' P P' t u u' x x' (play.inside {q = r} lt h run) (play.inside {q = r'} lt' h' run') e =
-      same_turn r K K' l l' μ μ' P P' (suc t) u u' x x' run (subst (λ (z : Position). Run G z (suc t) x' (host_turn K' l' μ' P') u') (one_inside G p r' r h' h) run') e
+      same_turn r K K' l l' μ μ' P P' (suc t) u u' x x' run (rw (one_inside G p r' r h' h) at run') e
   same_turn p K K' l l' μ μ' P P' t u u' x x' (play.inside {q = r} lt h run) (play.passes {q = r'} {a = a} lt' h' run') e = absurd (inside_no_pass G p r r' a h h')
   same_turn p K K' l l' μ μ' P P' t u u' x x' (play.passes {q = r} {a = a} lt h run) (play.inside {q = r'} lt' h' run') e = absurd (inside_no_pass G p r' r a h' h)
   same_turn p K K' l l' μ μ' P P' t u u' x x' (play.passes {q = r} {a = a} {trace = y} lt h run) (play.passes {q = r'} {a = a'} {trace = y'} lt' h' run') e =
       let one = one_pass G p r r' a a' y y' h h' e in
-      same_turn r K K' l l' μ μ' P P' (suc t) u u' y y' run (subst (λ (z : Position). Run G z (suc t) y' (host_turn K' l' μ' P') u') (sym one.1) run')
+      same_turn r K K' l l' μ μ' P P' (suc t) u u' y y' run (rw (← one.1) at run')
       (cancel a y y' (e ∙ ap (λ z. host_moves (z ∷ y')) (sym one.0)))
 
 -- two lists first differ at one place
@@ -82,7 +82,7 @@ module _ (G : Game) (list : WordList) (law : Listed G.meaning list) where
       in
       let P = same_turn G _ _ _ _ _ _ _ _ _ 0 _ _ b.trace d.trace b.run d.run w.0 in
       ahead_one_way b.shown b.first b.second once b.ahead
-      (subst (λ (z : List ℕ). Ahead list z b.second b.first) (sym P) (subst (λ (z : Move). Ahead list d.shown z b.first) (sym w.2) (subst (λ (z : Move). Ahead list d.shown d.first z) (sym w.1) d.ahead)))
+      (subst (λ (z : List ℕ). Ahead list z b.second b.first) (sym P) (rw (← w.2) at (rw (← w.1) at d.ahead)))
 
 pub order_goes_one_way : OrderGoesOneWay
 order_goes_one_way = before_one_way

@@ -102,7 +102,7 @@ module _ (list : WordList) where
       first (saying v R') i =
           let x = in_each R R' v ws i in
           let b = h.0 x.0 x.1 in
-          subst (λ (z : Value). WordsBefore list (w ∷ []) (words z)) (sym x.2) (order.differ b.0 b.1 b.2 b.3 b.4 b.5)
+          rw x.2 (order.differ b.0 b.1 b.2 b.3 b.4 b.5)
 
   left_ascend : (v : Value) (ss : List Saying) → Ascending SaidBefore ss → Ascending SaidBefore (with_left v ss)
   left_ascend v [] h = tt
@@ -111,7 +111,7 @@ module _ (list : WordList) where
       first : (y : Saying) → Memᴰ y (with_left v ss) → SaidBefore (saying (pair v w) R) y
       first (saying u R') i =
           let x = in_left v u R' ss i in
-          subst (λ (z : Value). WordsBefore list (words v ++ words w) (words z)) (sym x.2) (words_prefix list (words v) (words w) (words x.0) (h.0 (saying x.0 R') x.1))
+          rw x.2 (words_prefix list (words v) (words w) (words x.0) (h.0 (saying x.0 R') x.1))
 
   both_ascend : (right : List Entry → List Saying) (ss : List Saying) → ((R : List Entry) → Ascending SaidBefore (right R)) → Ascending SaidBefore ss → Ascending SaidBefore (both_parts right ss)
   both_ascend right [] k h = tt
@@ -123,7 +123,7 @@ module _ (list : WordList) where
           let a = in_left v u S (right R) i in
           let b = in_both right z T ss j in
           let lead = words_extend list (words v) (words b.0) (words a.0) (words b.1) (h.0 (saying b.0 b.2) b.3) in
-          subst (λ (e : Value). WordsBefore list (words u) (words e)) (sym b.5) (subst (λ (e : Value). WordsBefore list (words e) (words b.0 ++ words b.1)) (sym a.2) lead)
+          rw b.5 (rw a.2 lead)
 
   module _ (G : Game) where
     sayings_ascend : (θ : Tree) (R : List Entry) → Ascending SaidBefore (sayings G list θ R)
@@ -144,7 +144,7 @@ module _ (list : WordList) where
             first : (y : Reply) → Memᴰ y (calls_with m ss K l μ P) → Ahead list P (call m (four (words v))) (move_of (passed y))
             first (reply b r) i =
                 let x = in_with G list law K l μ P m b r ss i in
-                subst (λ (z : Pass). Ahead list P (call m (four (words v))) (move_of z)) (sym x.3) (order.called_with refl (words_extend list (words v) (words x.0) _ _ (h.0 (saying x.0 x.1) x.2)))
+                rw x.3 (order.called_with refl (words_extend list (words v) (words x.0) _ _ (h.0 (saying x.0 x.1) x.2)))
 
         calls_of_ascend : (o : Option Entry) (m : ℕ) → Ascending ReplyBefore (calls_of G list o m K l μ P)
         calls_of_ascend none m = tt
@@ -174,7 +174,7 @@ module _ (list : WordList) where
             across (reply a q) (reply b r) i j =
                 let v = calls_one (at μ.names m) m a q i in
                 let w = calls_some ms b r j in
-                subst (λ (z : Pass). Ahead list P (move_of a) (move_of z)) (sym w.3) (subst (λ (z : Pass). Ahead list P (move_of z) (move_of (host_call w.0 w.1))) (sym v.1) (order.shown_first (sub m w.0 (order.here refl w.2))))
+                rw w.3 (rw v.1 (order.shown_first (sub m w.0 (order.here refl w.2))))
 
         allowed_ascend : (b : Bool) → Ascending ReplyBefore (where_true b (calls G list P K l μ P))
         allowed_ascend true = calls_ascend P (λ m n s. s)
@@ -192,7 +192,7 @@ module _ (list : WordList) where
             first : (y : Reply) → Memᴰ y (answers_with m E ss K μ P) → Ahead list P (answer m (four (words v))) (move_of (passed y))
             first (reply b r) i =
                 let x = in_answer G list law m E K μ P b r ss i in
-                subst (λ (z : Pass). Ahead list P (answer m (four (words v))) (move_of z)) (sym x.3) (order.answered_with refl (words_extend list (words v) (words x.0) _ _ (h.0 (saying x.0 x.1) x.2)))
+                rw x.3 (order.answered_with refl (words_extend list (words v) (words x.0) _ _ (h.0 (saying x.0 x.1) x.2)))
 
         answers_of_ascend : (o : Option Entry) (m : ℕ) (E : Context) (K : List Pending) → Ascending ReplyBefore (answers_of G list o m E K μ P)
         answers_of_ascend none m E K = tt
@@ -222,7 +222,7 @@ module _ (list : WordList) where
         across (reply a q) (reply b r) i j =
             let v = allowed_call P law K l μ _ a q i in
             let w = answers_some P law μ K b r j in
-            subst (λ (z : Pass). Ahead list P (move_of a) (move_of z)) (sym w.2) (subst (λ (z : Pass). Ahead list P (move_of z) (move_of (host_answer w.0 w.1))) (sym v.2) order.call_first)
+            rw w.2 (rw v.2 order.call_first)
 
     module _ (law : Listed G.meaning list) where
       abbrev PlaysBefore : Position → ℕ → Played → Played → Type 0
@@ -282,7 +282,7 @@ module _ (list : WordList) where
       reply_move K l μ P a q i =
           let w = moves_at G (host_turn K l μ P) q (some a) (replies_are G list law K l μ P a q i) in
           let e : w.0 ≡ a = (let d = w.1 in cc) in
-          subst (λ (z : Pass). first_moves z ≡ move_of z ∷ []) e w.2
+          rw e at w.2
 
       -- a play after a reply of a list
       after_some : (plays : Position → List Played) (rs : List Reply) (y : Played) → Memᴰ y (after_each plays rs) → (a : Pass) × (q : Position) × (x : Played) × Memᴰ (reply a q) rs × (y ≡ after a x)

@@ -48,21 +48,21 @@ module _ {X : Type 0} {Y : Type 0} (R : X → Y → Type 0) where
   pub across : (xs : List X) (ys : List Y) (k : ℕ) (x : X) → AllZip R xs ys → at xs k ≡ some x → (y : Y) × (at ys k ≡ some y) × R x y
   across [] ys k x h e = cc
   across (w ∷ xs) [] k x h e = absurd h
-  across (w ∷ xs) (y ∷ ys) zero x h e = let same : w ≡ x = cc in (y, refl, subst (λ (z : X). R z y) same h.0)
+  across (w ∷ xs) (y ∷ ys) zero x h e = let same : w ≡ x = cc in (y, refl, rw same at h.0)
   across (w ∷ xs) (y ∷ ys) (suc k) x h e = across xs ys k x h.1 e
 
   -- and the other way
   pub back : (xs : List X) (ys : List Y) (k : ℕ) (y : Y) → AllZip R xs ys → at ys k ≡ some y → (x : X) × (at xs k ≡ some x) × R x y
   back xs [] k y h e = cc
   back [] (w ∷ ys) k y h e = absurd h
-  back (x ∷ xs) (w ∷ ys) zero y h e = let same : w ≡ y = cc in (x, refl, subst (λ (z : Y). R x z) same h.0)
+  back (x ∷ xs) (w ∷ ys) zero y h e = let same : w ≡ y = cc in (x, refl, rw same at h.0)
   back (x ∷ xs) (w ∷ ys) (suc k) y h e = back xs ys k y h.1 e
 
   -- another element that corresponds may be set in a place
   pub set_at : (xs : List X) (ys : List Y) (k : ℕ) (x : X) (y : Y) → AllZip R xs ys → at ys k ≡ some y → R x y → AllZip R (set xs k x) ys
   set_at xs [] k x y h e r = cc
   set_at [] (w ∷ ys) k x y h e r = absurd h
-  set_at (z ∷ xs) (w ∷ ys) zero x y h e r = let same : w ≡ y = cc in (subst (λ (a : Y). R x a) (sym same) r, h.1)
+  set_at (z ∷ xs) (w ∷ ys) zero x y h e r = let same : w ≡ y = cc in (rw (← same) at r, h.1)
   set_at (z ∷ xs) (w ∷ ys) (suc k) x y h e r = (h.0, set_at xs ys k x y h.1 e r)
 
   -- one more on each side

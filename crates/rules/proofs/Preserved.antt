@@ -77,7 +77,7 @@ module _ (V : ℕ → Tree) (Γ : List Tree) (A : Meaning) where
       weaker (EntryOk Σ) (EntryOk (Σ ++ (θ ∷ []))) (entry_grow Σ (Σ ++ (θ ∷ [])) (grows_push Σ θ)) (es ++ (e ∷ [])) (Σ ++ (θ ∷ [])) (push (EntryOk Σ) es Σ e θ h k)
 
   pub new_type : (Σ : List Tree) (es : List Entry) (θ : Tree) → EntriesOk Σ es Σ → at (Σ ++ (θ ∷ [])) (length es) ≡ some θ
-  new_type Σ es θ h = subst (λ (n : ℕ). at (Σ ++ (θ ∷ [])) n ≡ some θ) (sym (as_long (EntryOk Σ) es Σ h)) (at_here Σ θ [])
+  new_type Σ es θ h = rw (← (as_long (EntryOk Σ) es Σ h)) at (at_here Σ θ [])
 
   -- a step of the library's own keeps the type, and adds at most one name
   abbrev StateOk : List Tree → Tree → State → Type 0
@@ -108,11 +108,11 @@ module _ (V : ℕ → Tree) (Γ : List Tree) (A : Meaning) where
   preserved closed Σ θ c d (step.first_part E v w {μ}) h = same_memory Σ θ E (fst (tuple ⌊ v ⌋ ⌊ w ⌋)) ⌊ v ⌋ μ h.0 h.1 (λ ρ k. left ρ k)
     where
       left : (ρ : Tree) → (σ : Tree) × ((a : Tree) × (b : Tree) × (pair_type ρ σ ≡ pair_type a b) × Typed V Γ A Σ [] ⌊ v ⌋ a × Typed V Γ A Σ [] ⌊ w ⌋ b) → Typed V Γ A Σ [] ⌊ v ⌋ ρ
-      left ρ k = let e = k.1.2 in let same : k.1.0 ≡ ρ = cc in subst (λ (x : Tree). Typed V Γ A Σ [] ⌊ v ⌋ x) same k.1.3
+      left ρ k = let e = k.1.2 in let same : k.1.0 ≡ ρ = cc in rw same at k.1.3
   preserved closed Σ θ c d (step.second_part E v w {μ}) h = same_memory Σ θ E (snd (tuple ⌊ v ⌋ ⌊ w ⌋)) ⌊ w ⌋ μ h.0 h.1 (λ ρ k. right ρ k)
     where
       right : (ρ : Tree) → (σ : Tree) × ((a : Tree) × (b : Tree) × (pair_type σ ρ ≡ pair_type a b) × Typed V Γ A Σ [] ⌊ v ⌋ a × Typed V Γ A Σ [] ⌊ w ⌋ b) → Typed V Γ A Σ [] ⌊ w ⌋ ρ
-      right ρ k = let e = k.1.2 in let same : k.1.1 ≡ ρ = cc in subst (λ (x : Tree). Typed V Γ A Σ [] ⌊ w ⌋ x) same k.1.4
+      right ρ k = let e = k.1.2 in let same : k.1.1 ≡ ρ = cc in rw same at k.1.4
   preserved closed Σ θ c d (step.if_true E i M N {μ} e) h = same_memory Σ θ E (ite (num i) M N) M μ h.0 h.1 (λ ρ k. k.1)
   preserved closed Σ θ c d (step.if_false E i M N {μ} e) h = same_memory Σ θ E (ite (num i) M N) N μ h.0 h.1 (λ ρ k. k.2)
   preserved closed Σ θ c d (step.read E r v {μ} e) h = same_memory Σ θ E (get r) ⌊ v ⌋ μ h.0 h.1 (λ ρ k. held ρ k)
@@ -122,7 +122,7 @@ module _ (V : ℕ → Tree) (Γ : List Tree) (A : Meaning) where
           let g = back (GlobalOk Σ) μ.globals Γ r ρ h.0.1 k in
           let f : some g.0 ≡ some v = sym g.1 ∙ e in
           let same : g.0 ≡ v = cc in
-          subst (λ (x : Value). Typed V Γ A Σ [] ⌊ x ⌋ ρ) same g.2
+          rw same at g.2
   preserved closed Σ θ c d (step.write E r v {μ}) h =
       let p = plugged V Γ A Σ E (put r ⌊ v ⌋) θ h.1 in
       let k = p.1 in
@@ -140,7 +140,7 @@ module _ (V : ℕ → Tree) (Γ : List Tree) (A : Meaning) where
       inside a b ρ σ is body arg t =
           let s : a ≡ V x = (let z : a ≡ ρ = cc in z ∙ is) in
           let u : σ ≡ b = cc in
-          body_replaced V Γ A Σ v x (subst (λ (y : Tree). Typed V Γ A Σ [] ⌊ v ⌋ y) s arg) M b (subst (λ (y : Tree). Typed V Γ A Σ (x ∷ []) M y) u body)
+          body_replaced V Γ A Σ v x (rw s at arg) M b (rw u at body)
   preserved closed Σ θ c d (step.leave E v {μ}) h =
       let p = plugged V Γ A Σ E ⟪ ⌊ v ⌋ ⟫ θ h.1 in
       (Σ, (λ m ρ e. e), (h.0, p.2 Σ (λ m ρ e. e) ⌊ v ⌋ p.1), omega arith)
@@ -212,7 +212,7 @@ module _ (G : Game) (V : ℕ → Tree) (Γ : List Tree) (closed : Closed G.meani
       let k = said_typed V Γ A closed θ' μ.names v R s ok.0 few ok.1.0 in
       let t : function_type w.0 w.1 ≡ function_type θ θ' = one_type V Γ A ok.0 m (function_type w.0 w.1) (function_type θ θ') w.3 (e.1 ∙ ap some e.2.0) in
       let r : θ' ≡ w.1 = cc in
-      let goes : Typed V Γ A k.0 [] (plug E ⌊ v ⌋) w.2 = w.4 k.0 k.1 ⌊ v ⌋ (subst (λ (y : Tree). Typed V Γ A k.0 [] ⌊ v ⌋ y) r k.3) in
+      let goes : Typed V Γ A k.0 [] (plug E ⌊ v ⌋) w.2 = w.4 k.0 k.1 ⌊ v ⌋ (rw (← r) k.3) in
       ((k.0, w.2, (k.2, globals_grow V Γ A ok.0 k.0 k.1 μ.globals Γ ok.1.1), goes, pending_grow V Γ A ok.0 k.0 k.1 true K w.5), omega (arith, k.4, few_leaves θ' few))
 
   pub run_ok : (p q : Position) (t u : ℕ) (trace : List Pass) → Run G p t trace q u → PositionOk V Γ A p → PositionOk V Γ A q × (length (names_at q) + 4 * t ≤ length (names_at p) + 4 * u)
@@ -266,7 +266,7 @@ module _ (G : Game) (V : ℕ → Tree) (Γ : List Tree) (closed : Closed G.meani
   parts_some : (K : List Pending) (M : Term) (μ : Memory) (P : List ℕ) (Σ : List Tree) (θ : Tree) (s : Parts) → MadeOf M s → MemoryOk V Γ A Σ μ → Typed V Γ A Σ [] M θ → Fine V Γ A Σ θ s → PendingOk V Γ A true Σ K → next_by G K s μ P ≡ no_step → ⊥
   parts_some K M μ P Σ θ (value v) is h k f w e = no_stuck_answer K Σ v μ P w e
   parts_some K M μ P Σ θ (redex E r) is h k f w e =
-      let p = plugged V Γ A Σ E ⌈ r ⌉ θ (subst (λ (X : Term). Typed V Γ A Σ [] X θ) (sym is) k) in
+      let p = plugged V Γ A Σ E ⌈ r ⌉ θ (rw (← is) at k) in
       redex_some K E μ P Σ p.0 r h p.1 e
   parts_some K M μ P Σ θ neither is h k f w e = f
 

@@ -21,7 +21,7 @@ module _ {X : Type 0} where
   in_order_at : (R : X → X → Type 0) (xs : List X) → Ascending R xs → (i k : ℕ) (x y : X) → i < k → at xs i ≡ some x → at xs k ≡ some y → R x y
   in_order_at R [] up i k x y lt d e = cc
   in_order_at R (w ∷ xs) up zero zero x y lt d e = absurd (omega arith)
-  in_order_at R (w ∷ xs) up zero (suc k) x y lt d e = let s : w ≡ x = cc in subst (λ (z : X). R z y) s (up.0 y (there y xs k e))
+  in_order_at R (w ∷ xs) up zero (suc k) x y lt d e = let s : w ≡ x = cc in rw s at (up.0 y (there y xs k e))
   in_order_at R (w ∷ xs) up (suc i) zero x y lt d e = absurd (omega arith)
   in_order_at R (w ∷ xs) up (suc i) (suc k) x y lt d e = in_order_at R xs up.1 i k x y (omega arith) d e
 
@@ -80,7 +80,7 @@ module _ (G : Game) (list : WordList) (law : Listed G.meaning list) (plays : Lis
           again (inr ge) =
               let same : i ≡ k = omega arith in
               let one : x ≡ y = cc in
-              absurd (before_one_way G list law x y b (subst (λ (z : List Move). Before G list y z) (sym one) (subst (λ (z : List Move). Before G list z y) one b)))
+              absurd (before_one_way G list law x y b (rw one (rw one at b)))
 
   -- the plays from place s up to place j, where s is the first place behind those that the range begins after
   module _ (s j : ℕ) (from : Option (List Move)) (to : List Move) (last : at xs j ≡ some to) (few : s ≤ suc j)
@@ -104,7 +104,7 @@ module _ (G : Game) (list : WordList) (law : Listed G.meaning list) (plays : Lis
           where
             go : (j < k) ⊎ (k ≤ j) → k ≤ j
             go (inl lt) = let b = in_order_at (Before G list) xs up j k to moves lt last e in
-                absurd (before_one_way G list law to moves b (subst (λ (z : List Move). Before G list z to) (sym same) (subst (λ (z : List Move). Before G list to z) same b)))
+                absurd (before_one_way G list law to moves b (rw same (rw same at b)))
             go (inr le) = le
         up_to k e (inr b) = let lt = before_at k j moves to e last b in omega arith
 

@@ -52,7 +52,7 @@ both_in right v w R R' [] i j = absurd (Memᴰ.not-nil i)
 both_in right v w R R' (saying v' R₁ ∷ ss) (Memᴰ.head e) j =
     let a : v ≡ v' = cc in
     let b : R ≡ R₁ = cc in
-    Memᴰ.append_left _ (subst (λ (x : Value). Memᴰ (saying (pair v w) R') (with_left x (right R₁))) a (left_in v w R' (right R₁) (subst (λ (x : List Entry). Memᴰ (saying w R') (right x)) b j)))
+    Memᴰ.append_left _ (subst (λ (x : Value). Memᴰ (saying (pair v w) R') (with_left x (right R₁))) a (left_in v w R' (right R₁) (rw b at j)))
 both_in right v w R R' (saying v' R₁ ∷ ss) (Memᴰ.tail i) j = Memᴰ.append_right (with_left v' (right R₁)) (both_in right v w R R' ss i j)
 
 pub in_both : (right : List Entry → List Saying) (u : Value) (R' : List Entry) (ss : List Saying) → Memᴰ (saying u R') (both_parts right ss) → (v : Value) × (w : Value) × (R : List Entry) × Memᴰ (saying v R) ss × Memᴰ (saying w R') (right R) × (u ≡ pair v w)
@@ -95,7 +95,7 @@ module _ (G : Game) (list : WordList) (law : Listed G.meaning list) where
   listed_says int_type R v R' i =
       let x = in_each R R' v _ i in
       let y = listed_word list.length list.word x.0 x.1 in
-      let may : G.meaning.may_say x.0 ≡ true = subst (λ (w : ℤ). G.meaning.may_say w ≡ true) y.2 (law.only y.0 y.1) in
+      let may : G.meaning.may_say x.0 ≡ true = rw y.2 at (law.only y.0 y.1) in
       says_as _ _ _ _ _ _ _ x.2 x.3 (rule.says_word x.0 may)
   listed_says (pair_type θ θ') R v R' i =
       let x = in_both (sayings G list θ') v R' (sayings G list θ R) i in
@@ -127,7 +127,7 @@ module _ (G : Game) (list : WordList) (law : Listed G.meaning list) where
     calls_in [] m x θ M v R i e h = absurd (Memᴰ.not-nil i)
     calls_in (n ∷ ms) m x θ M v R (Memᴰ.head d) e h =
         let here : Memᴰ (reply (host_call m v) (called m v R)) (calls_of G list (at μ.names m) m K l μ P) = rw e (with_in m v R (sayings G list θ μ.names) (says_listed θ μ.names v R h)) in
-        Memᴰ.append_left (calls G list ms K l μ P) (subst (λ (k : ℕ). Memᴰ (reply (host_call m v) (called m v R)) (calls_of G list (at μ.names k) k K l μ P)) d here)
+        Memᴰ.append_left (calls G list ms K l μ P) (rw (← d) here)
     calls_in (n ∷ ms) m x θ M v R (Memᴰ.tail i) e h = Memᴰ.append_right (calls_of G list (at μ.names n) n K l μ P) (calls_in ms m x θ M v R i e h)
 
     in_calls_of : (o : Option Entry) (m : ℕ) (a : Pass) (q : Position) → at μ.names m ≡ o → Memᴰ m P → l < G.bounds.insistence → Memᴰ (reply a q) (calls_of G list o m K l μ P) → G ⊢ host_turn K l μ P ─ some a ⟹ q

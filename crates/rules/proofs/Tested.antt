@@ -112,11 +112,11 @@ counts_after c (row ∷ rows) = counts_after (counts_with c (section row)) rows
 
 -- where the test holds, the tally goes on to the end
 rows_tested : (before : List Row) (c : Counts) (table : List ℕ) (rows : List Row) → Good before c table → rows_test before c table rows ≡ true → (more : List ℕ) × Good (before ++ rows) (counts_after c rows) more
-rows_tested before c table [] good e = (table, subst (λ (rs : List Row). Good rs c table) (sym (append-nil before)) good)
+rows_tested before c table [] good e = (table, rw (← (append-nil before)) at good)
 rows_tested before c table (row ∷ rows) good e =
     let p = and_parts (row_test before c table row) _ e in
     let w = rows_tested (before ++ (row ∷ [])) _ _ rows (row_tested before c table row good p.0) p.1 in
-    (w.0, subst (λ (rs : List Row). Good rs (counts_after c (row ∷ rows)) w.0) (append_assoc before (row ∷ []) rows) w.1)
+    (w.0, rw (append_assoc before (row ∷ []) rows) at w.1)
 
 -- a test at each place below n
 abbrev all_places : ℕ → (ℕ → Bool) → Bool
@@ -161,7 +161,7 @@ words_test (s ∷ sets) = ltb s (2 ^ 64) && words_test sets
 -- where the test holds, each set is a word
 words_tested : (sets : List ℕ) → words_test sets ≡ true → Words sets
 words_tested [] e t s h = cc
-words_tested (x ∷ sets) e zero s h = let same : x ≡ s = cc in subst (λ (n : ℕ). n < 2 ^ 64) same (ltb-true x (2 ^ 64) (and_parts (ltb x (2 ^ 64)) (words_test sets) e).0)
+words_tested (x ∷ sets) e zero s h = let same : x ≡ s = cc in rw same at (ltb-true x (2 ^ 64) (and_parts (ltb x (2 ^ 64)) (words_test sets) e).0)
 words_tested (x ∷ sets) e (suc t) s h = words_tested sets (and_parts (ltb x (2 ^ 64)) (words_test sets) e).1 t s h
 
 module _ (rows : List Row) (known sets : List ℕ) where
@@ -195,7 +195,7 @@ module _ (rows : List Row) (known sets : List ℕ) where
   -- where the test holds, each row stands
   stands_tested : (more : List Row) → stands_test more ≡ true → (j : ℕ) (row : Row) → slice_get more j ≡ Some row → stands rows known sets row ≡ true
   stands_tested [] e j row h = cc
-  stands_tested (r ∷ more) e zero row h = let same : r ≡ row = cc in subst (λ (x : Row). stands rows known sets x ≡ true) same (and_parts (stands rows known sets r) (stands_test more) e).0
+  stands_tested (r ∷ more) e zero row h = let same : r ≡ row = cc in rw same at (and_parts (stands rows known sets r) (stands_test more) e).0
   stands_tested (r ∷ more) e (suc j) row h = stands_tested more (and_parts (stands rows known sets r) (stands_test more) e).1 j row h
 
   -- the test that rows without fault mount

@@ -105,7 +105,7 @@ module _ (A : Meaning) (closed : Closed A) where
   leaves_tell (pair_type θ θ') R v w R' R'' x y h k i j e =
       let d = simp append_assoc at (rw (h.5, k.5) at e) in
       let first = leaves_tell θ R h.0 k.0 h.2 k.2 _ _ (said A θ R _ _ h.3) (said A θ R _ _ k.3) (sayable θ R _ _ h.3) (sayable θ R _ _ k.3) d in
-      let right : Says A θ' h.2 k.1 R'' = subst (λ (z : List Entry). Says A θ' z k.1 R'') (sym first.1) k.4 in
+      let right : Says A θ' h.2 k.1 R'' = rw (← first.1) at k.4 in
       let second = leaves_tell θ' h.2 h.1 k.1 R' R'' x y (said A θ' h.2 _ _ h.4) (said A θ' h.2 _ _ right) (sayable θ' _ _ _ h.4) (sayable θ' _ _ _ k.4) first.2 in
       ((cc), second.1, second.2)
   leaves_tell (function_type θ θ') R v w R' R'' x y h k i j e = let d = rw (h.0, k.0) at e in ((cc), (cc), (cc))
@@ -147,7 +147,7 @@ module _ (G : Game) (closed : Closed G.meaning) where
         let ld = inside _ μ.names d.0 d.6 in
         let m : c.0 ≡ d.0 = same_decimal c.0 d.0 (omega arith) (omega arith) names in
         let θ : c.2 ≡ d.2 = cc in
-        let says : Says G.meaning c.2 μ.names d.4 d.5 = subst (λ (z : Tree). Says G.meaning z μ.names d.4 d.5) (sym θ) d.7 in
+        let says : Says G.meaning c.2 μ.names d.4 d.5 = rw (← θ) at d.7 in
         let v = leaves_tell G.meaning closed c.2 μ.names c.4 d.4 c.5 d.5 [] [] (said _ _ _ _ _ c.7) (said _ _ _ _ _ says) (sayable G.meaning closed _ _ _ _ c.7) (sayable G.meaning closed _ _ _ _ d.7) (ap (λ z. z ++ []) leaves) in
         (let value = v.0 in cc, told.1)
 
@@ -162,7 +162,7 @@ module _ (G : Game) (closed : Closed G.meaning) where
         let ld = inside _ μ.names d.0 d.7 in
         let m : c.0 ≡ d.0 = same_decimal c.0 d.0 (omega arith) (omega arith) names in
         let θ : c.3 ≡ d.3 = cc in
-        let says : Says G.meaning c.3 μ.names d.4 d.5 = subst (λ (z : Tree). Says G.meaning z μ.names d.4 d.5) (sym θ) d.8 in
+        let says : Says G.meaning c.3 μ.names d.4 d.5 = rw (← θ) at d.8 in
         let v = leaves_tell G.meaning closed c.3 μ.names c.4 d.4 c.5 d.5 [] [] (said _ _ _ _ _ c.8) (said _ _ _ _ _ says) (sayable G.meaning closed _ _ _ _ c.8) (sayable G.meaning closed _ _ _ _ d.8) (ap (λ z. z ++ []) leaves) in
         (let value = v.0 in cc, told.1)
 
@@ -192,7 +192,7 @@ module _ (G : Game) (closed : Closed G.meaning) where
       let d = host_step G (host_turn K l μ P) r (some b) k in
       let i : c.0 ≡ a = cc in
       let j : d.0 ≡ b = cc in
-      let told = host_told K l μ P a b q r x y few fq fr (subst (λ (z : Pass). HostStep G K l μ P z q) i c.2) (subst (λ (z : Pass). HostStep G K l μ P z r) j d.2) e in
+      let told = host_told K l μ P a b q r x y few fq fr (rw i at c.2) (rw j at d.2) e in
       let one = one_pass G (host_turn K l μ P) q r a b [] [] h k (ap (λ z. host_moves (z ∷ [])) told.0) in
       (told.0, one.1, told.1)
 
@@ -212,13 +212,13 @@ module _ (G : Game) (closed : Closed G.meaning) where
   same_trace p q q' t u u' x x' e e' s s' few play.stays h (play.passes {a = a} {trace = y} lt g run) k d = absurd (end_apart a y e e' s s' d)
   same_trace p q q' t u u' x x' e e' s s' few (play.inside {q = r} lt g run) h play.stays k d = absurd (ended_no_inside G p r t e' s' k lt g)
   same_trace p q q' t u u' x x' e e' s s' few (play.inside {q = r} lt g run) h (play.inside {q = r'} lt' g' run') k d =
-      same_trace r q q' (suc t) u u' x x' e e' s s' (λ tr z w m. few tr z w (play.inside lt g m)) run h (subst (λ (z : Position). Run G z (suc t) x' q' u') (one_inside G p r' r g' g) run') k d
+      same_trace r q q' (suc t) u u' x x' e e' s s' (λ tr z w m. few tr z w (play.inside lt g m)) run h (rw (one_inside G p r' r g' g) at run') k d
   same_trace p q q' t u u' x x' e e' s s' few (play.inside {q = r} lt g run) h (play.passes {q = r'} {a = a} lt' g' run') k d = absurd (inside_no_pass G p r r' a g g')
   same_trace p q q' t u u' x x' e e' s s' few (play.passes {a = a} {trace = y} lt g run) h play.stays k d = absurd (end_apart a y e' e s' s (sym d))
   same_trace p q q' t u u' x x' e e' s s' few (play.passes {q = r} {a = a} lt g run) h (play.inside {q = r'} lt' g' run') k d = absurd (inside_no_pass G p r' r a g' g)
   same_trace p q q' t u u' x x' e e' s s' few (play.passes {q = r} {a = a} {trace = y} lt g run) h (play.passes {q = r'} {a = a'} {trace = y'} lt' g' run') k d =
       let told = pass_told p r r' a a' _ _ (few [] p t play.stays) (few (a ∷ []) r (suc t) (play.passes lt g play.stays)) (few (a' ∷ []) r' (suc t) (play.passes lt' g' play.stays)) g g' d in
-      let more = same_trace r q q' (suc t) u u' y y' e e' s s' (λ tr z w m. few (a ∷ tr) z w (play.passes lt g m)) run h (subst (λ (z : Position). Run G z (suc t) y' q' u') (sym told.1) run') k told.2 in
+      let more = same_trace r q q' (suc t) u u' y y' e e' s s' (λ tr z w m. few (a ∷ tr) z w (play.passes lt g m)) run h (rw (← told.1) at run') k told.2 in
       cc
 
 pub listings_tell_plays : ListingsTellPlays

@@ -89,7 +89,7 @@ module _ (V : ℕ → Tree) (Γ : List Tree) (A : Meaning) where
 
   module _ (Σ : List Tree) (v : Value) (x : ℕ) (hv : Typed Σ [] ⌊ v ⌋ (V x)) where
     at_var : (Δ Δ' : List ℕ) → Leaves x Δ Δ' → (y : ℕ) (θ : Tree) (b : Bool) → eqb y x ≡ b → θ ≡ V y → Memᴰ y Δ → Typed Σ Δ' (choose b ⌊ v ⌋ (var y)) θ
-    at_var Δ Δ' s y θ true e d i = closed_anywhere Σ Δ' ⌊ v ⌋ θ (subst (λ (ρ : Tree). Typed Σ [] ⌊ v ⌋ ρ) (ap V (sym (eqb-true y x e)) ∙ sym d) hv)
+    at_var Δ Δ' s y θ true e d i = closed_anywhere Σ Δ' ⌊ v ⌋ θ (rw (ap V (sym (eqb-true y x e)) ∙ sym d) at hv)
     at_var Δ Δ' s y θ false e d i = go (s y i)
       where
         go : (y ≡ x) ⊎ Memᴰ y Δ' → (θ ≡ V y) × Memᴰ y Δ'

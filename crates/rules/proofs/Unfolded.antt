@@ -42,7 +42,7 @@ good_from b (r ∷ rs) h = (here, good_from (b ++ (r ∷ [])) rs (subst Faultles
     here =
         let inside : length b < length (b ++ (r ∷ rs)) = omega (arith, length-append b (r ∷ rs)) in
         let before : take (length b) (b ++ (r ∷ rs)) ≡ b = take-append-le (length b) b (r ∷ rs) (omega arith) ∙ take_all (length b) b (omega arith) in
-        subst (λ (x : List Row). NoneOf (RowFault true x r)) before (h (length b) r inside (get_or_at b r rs r (length b) refl))
+        rw before at (h (length b) r inside (get_or_at b r rs r (length b) refl))
 
 -- what cannot fail holds, for references
 all_stable : (b : List Row) (ps : List (Section × ℕ)) → ((AllByRecursion (λ p. p.1 < count p.0 b) ps → ⊥) → ⊥) → AllByRecursion (λ p. p.1 < count p.0 b) ps
@@ -77,7 +77,7 @@ module _ (type : ℕ → Tree) where
   stands b before (TermRow n f ∷ rows) zero form good len e =
       let same : f ≡ form = cc in
       let h = grown (before ++ (formed type before f ∷ [])) rows in
-      (before, h.0, b, h.1 ∙ append_assoc before (formed type before f ∷ []) h.0 ∙ ap (λ x. before ++ (formed type before x ∷ h.0)) same, omega arith, n, subst (λ (x : TermForm). RefersBack b (TermRow n x)) same (refers_back b (TermRow n f) good.0), sym len)
+      (before, h.0, b, h.1 ∙ append_assoc before (formed type before f ∷ []) h.0 ∙ ap (λ x. before ++ (formed type before x ∷ h.0)) same, omega arith, n, rw same at (refers_back b (TermRow n f) good.0), sym len)
   stands b before (TermRow n f ∷ rows) (suc k) form good len e =
       let w = stands (b ++ (TermRow n f ∷ [])) (before ++ (formed type before f ∷ [])) rows k form good.1 (omega (arith, count_push Terms b (TermRow n f), length-append before (formed type before f ∷ []))) e in
       (w.0, w.1, w.2, w.3, omega (arith, w.4, length-append before (formed type before f ∷ [])), w.5, w.6, w.7)
@@ -120,10 +120,10 @@ module _ (rows : List Row) (faultless : Faultless rows) where
         go false d = Memᴰ.tail (s x (free.inside form k a (Some y) is e (λ same. eqb-false x y d (let z : y ≡ x = cc in sym z)) f))
 
     part : (pre : List Term) (a : ℕ) → get_or pre a ⟨⟩ ≡ unfolded rows a → (Δ : List ℕ) (θ : Tree) → T Δ (unfolded rows a) θ → T Δ (get_or pre a ⟨⟩) θ
-    part pre a e Δ θ h = subst (λ (X : Term). T Δ X θ) (sym e) h
+    part pre a e Δ θ h = rw (← e) at h
 
     whole : (t : ℕ) (X : Term) → unfolded rows t ≡ X → (Δ : List ℕ) (θ : Tree) → T Δ X θ → T Δ (unfolded rows t) θ
-    whole t X e Δ θ h = subst (λ (Y : Term). T Δ Y θ) (sym e) h
+    whole t X e Δ θ h = rw (← e) at h
 
     pub tree_typed : (t : ℕ) (θ : Tree) → HasType rows t θ → (Δ : List ℕ) → InScope Δ t → T Δ (unfolded rows t) θ
     tree_typed t θ (typing.unit_rule is) Δ s = let w = form_at t UnitForm is in whole t _ w.1 Δ θ refl
@@ -178,7 +178,7 @@ module _ (rows : List Row) (faultless : Faultless rows) where
         let w = form_at t (Let x a b) is in
         let value = part w.0 a (w.2 a (omega (arith, w.5.1.0, w.6))) Δ ρ (tree_typed a ρ k Δ (plain Δ t (Let x a b) 0 a is refl s)) in
         whole t _ w.1 Δ θ (
-          subst (λ (y : Tree). T Δ (get_or w.0 a ⟨⟩) y) (variables_known x ρ h) value,
+          rw (variables_known x ρ h) at value,
           part w.0 b (w.2 b (omega (arith, w.5.1.1.0, w.6))) (x ∷ Δ) θ (tree_typed b θ l (x ∷ Δ) (bound Δ t (Let x a b) 1 b x is refl s)),
         )
     tree_typed t θ (typing.assert_rule {a = a} is h) Δ s =

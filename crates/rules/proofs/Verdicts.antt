@@ -225,7 +225,7 @@ module _ (G : Game) (list : WordList) (law : Listed G.meaning list) (plays : Lis
   losing_listed : (moves : List Move) (x : LosingPlay G moves) → Memᴰ (played x.play.trace failed x.play.steps) plays
   losing_listed moves x =
       all.each_is_listed x.play.trace failed x.play.steps
-      (record { play = subst (λ (e : Ending). PlayFrom G (start G) 0 x.play.trace e x.play.steps) x.lost x.play.play; no_more = λ d. cc })
+      (record { play = rw x.lost at x.play.play; no_more = λ d. cc })
 
   -- where trying comes to safe, the game is safe
   safe_by : (n : ℕ) (d s : Bool) → tried plays 0 false false ≡ safe n d s → Safe G n d s
@@ -241,7 +241,7 @@ module _ (G : Game) (list : WordList) (law : Listed G.meaning list) (plays : Lis
   module _ (trace : List Pass) (steps n : ℕ) (d s : Bool) (h : FoundLost plays 0 false false trace steps n d s) where
     -- the losing play is among the plays
     here : Memᴰ (played trace failed steps) plays
-    here = subst (λ (z : List Played). Memᴰ (played trace failed steps) z) (sym h.parts) (Memᴰ.append_right h.before (Memᴰ.head refl))
+    here = rw h.parts (Memᴰ.append_right h.before (Memᴰ.head refl))
 
     -- its place
     abbrev j : ℕ
@@ -259,7 +259,7 @@ module _ (G : Game) (list : WordList) (law : Listed G.meaning list) (plays : Lis
 
     -- a play before it is among the plays
     inside : (x : Played) → Memᴰ x h.before → Memᴰ x plays
-    inside x i = subst (λ (z : List Played). Memᴰ x z) (sym h.parts) (Memᴰ.append_left (played trace failed steps ∷ h.after) i)
+    inside x i = rw (← h.parts) at (Memᴰ.append_left (played trace failed steps ∷ h.after) i)
 
     -- no losing play comes before it
     none_sooner : (moves : List Move) → LosingPlay G moves → Before G list moves (host_moves trace) → ⊥
@@ -294,8 +294,8 @@ module _ (G : Game) (list : WordList) (law : Listed G.meaning list) (plays : Lis
       first = none_sooner;
       tried =
           tried_with part (FullInRange G list none (host_moves trace)) part_inside
-          (λ x i. range_in G list law plays all j (host_moves trace) at_j (moves_of x) (subst (λ (z : List (List Move)). Memᴰ (moves_of x) z) (sym part_is) (Memᴰ.map moves_of i)))
-          (λ moves r. subst (λ (z : List (List Move)). Memᴰ moves z) part_is (in_range G list law plays all j (host_moves trace) at_j moves r)) n d s
+          (λ x i. range_in G list law plays all j (host_moves trace) at_j (moves_of x) (rw (← part_is) at (Memᴰ.map moves_of i)))
+          (λ moves r. rw part_is at (in_range G list law plays all j (host_moves trace) at_j moves r)) n d s
           (let k : suc j ≡ n = (let a = h.as_many in omega arith) in subst (Counted (FullInRange G list none (host_moves trace))) k ((full_plays_are_counted G list law plays all).counted_up_to j (host_moves trace) at_j))
           (h.depth_is ∙ sym (some_append by_depth h.before trace failed steps refl)) (h.steps_is ∙ sym (some_append by_steps h.before trace failed steps refl));
     }
