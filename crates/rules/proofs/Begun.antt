@@ -160,7 +160,8 @@ module _ (rows : List Row) (A : Meaning) (mounted : Mounted rows) (lawful : Lawf
       lawful e _ c.typed [] (λ x f. absurd (c.closed x f))
       in
       let k = rw w.1 at typed in
-      (c.variable, get_or w.0 c.body ⟨⟩, w.1, (k.1, get_or_from_slice_get (types rows) t _ unit_type c.typed_as.named ∙ k.2, refl, k.3))
+      let is = get_or_from_slice_get (types rows) t _ unit_type c.typed_as.named in
+      (c.variable, get_or w.0 c.body ⟨⟩, w.1, (k.1, rw k.2 at is, refl, k.3))
 
   closed_entry : (t e : ℕ) → ClosedFunction rows t e → EntryOk V Γ A Σ (method_body (begins (unfolded rows e))) (listed_type rows t)
   closed_entry t e c =
@@ -204,9 +205,9 @@ module _ (rows : List Row) (A : Meaning) (mounted : Mounted rows) (lawful : Lawf
       rw k.2 (function_begun μ done (listed_type rows t) (library_name k.0 (V k.0) k.1) k.3 b)
 
   globals_begun : (rs : List Row) (μ : Memory) (done : List Tree) → ((n t e : ℕ) → Memᴰ (GlobalRow n t e) rs → GlobalRule rows t e) → Begun μ done → Begun (with_globals rows rs μ) (done ++ global_types rows rs)
-  globals_begun [] μ done h b = rw (← (append-nil done)) at b
+  globals_begun [] μ done h b = rw (← append-nil done) at b
   globals_begun (GlobalRow n t e ∷ rs) μ done h b =
-      subst (λ (x : List Tree). Begun (with_globals rows rs (with_beginning (begins (unfolded rows e)) μ)) x) (append_assoc done (listed_type rows t ∷ []) (global_types rows rs))
+      rw (append_assoc done (listed_type rows t ∷ []) (global_types rows rs)) at
       (globals_begun rs (with_beginning (begins (unfolded rows e)) μ) (done ++ (listed_type rows t ∷ [])) (λ m u x i. h m u x (Memᴰ.tail i)) (global_begun t e μ done (h n t e (Memᴰ.head refl)) b))
   globals_begun (row ∷ rs) μ done h b = globals_begun rs μ done (λ m t e i. h m t e (Memᴰ.tail i)) b
 

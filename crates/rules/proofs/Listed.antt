@@ -134,7 +134,7 @@ module _ (G : Game) where
     by_replies left t K l μ P (r ∷ rs) d lt rest trace e s i =
         let x = apart (plays_from G list left (suc t)) (r ∷ rs) trace e s i in
         let listed : Memᴰ (reply x.0 x.1) (replies G list K l μ P) = rw d x.3 in
-        subst (λ (y : List Pass). FullFrom G (host_turn K l μ P) t y e s) (sym x.4)
+        rw x.4
         (pass_first (host_turn K l μ P) x.1 t x.0 x.2 e s lt (replies_are G list law K l μ P x.0 x.1 listed) (rest x.1 x.2 e s x.5))
 
     pub only : (left t : ℕ) → left + t ≡ G.bounds.steps → Rest left t

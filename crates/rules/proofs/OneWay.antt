@@ -82,7 +82,7 @@ module _ (G : Game) (list : WordList) (law : Listed G.meaning list) where
       in
       let P = same_turn G _ _ _ _ _ _ _ _ _ 0 _ _ b.trace d.trace b.run d.run w.0 in
       ahead_one_way b.shown b.first b.second once b.ahead
-      (subst (λ (z : List ℕ). Ahead list z b.second b.first) (sym P) (rw (← w.2) at (rw (← w.1) at d.ahead)))
+      (rw (← w.1, ← w.2, ← P) at d.ahead)
 
 pub order_goes_one_way : OrderGoesOneWay
 order_goes_one_way = before_one_way

@@ -123,7 +123,7 @@ module _ (list : WordList) where
           let a = in_left v u S (right R) i in
           let b = in_both right z T ss j in
           let lead = words_extend list (words v) (words b.0) (words a.0) (words b.1) (h.0 (saying b.0 b.2) b.3) in
-          rw b.5 (rw a.2 lead)
+          rw (b.5, a.2) lead
 
   module _ (G : Game) where
     sayings_ascend : (θ : Tree) (R : List Entry) → Ascending SaidBefore (sayings G list θ R)
@@ -174,7 +174,7 @@ module _ (list : WordList) where
             across (reply a q) (reply b r) i j =
                 let v = calls_one (at μ.names m) m a q i in
                 let w = calls_some ms b r j in
-                rw w.3 (rw v.1 (order.shown_first (sub m w.0 (order.here refl w.2))))
+                rw (w.3, v.1) (order.shown_first (sub m w.0 (order.here refl w.2)))
 
         allowed_ascend : (b : Bool) → Ascending ReplyBefore (where_true b (calls G list P K l μ P))
         allowed_ascend true = calls_ascend P (λ m n s. s)
@@ -222,7 +222,7 @@ module _ (list : WordList) where
         across (reply a q) (reply b r) i j =
             let v = allowed_call P law K l μ _ a q i in
             let w = answers_some P law μ K b r j in
-            rw w.2 (rw v.2 order.call_first)
+            rw (w.2, v.2) order.call_first
 
     module _ (law : Listed G.meaning list) where
       abbrev PlaysBefore : Position → ℕ → Played → Played → Type 0

@@ -77,7 +77,7 @@ module _ (V : ℕ → Tree) (Γ : List Tree) (A : Meaning) where
       weaker (EntryOk Σ) (EntryOk (Σ ++ (θ ∷ []))) (entry_grow Σ (Σ ++ (θ ∷ [])) (grows_push Σ θ)) (es ++ (e ∷ [])) (Σ ++ (θ ∷ [])) (push (EntryOk Σ) es Σ e θ h k)
 
   pub new_type : (Σ : List Tree) (es : List Entry) (θ : Tree) → EntriesOk Σ es Σ → at (Σ ++ (θ ∷ [])) (length es) ≡ some θ
-  new_type Σ es θ h = rw (← (as_long (EntryOk Σ) es Σ h)) at (at_here Σ θ [])
+  new_type Σ es θ h = rw (← as_long (EntryOk Σ) es Σ h) at (at_here Σ θ [])
 
   -- a step of the library's own keeps the type, and adds at most one name
   abbrev StateOk : List Tree → Tree → State → Type 0

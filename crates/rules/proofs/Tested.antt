@@ -112,7 +112,7 @@ counts_after c (row ∷ rows) = counts_after (counts_with c (section row)) rows
 
 -- where the test holds, the tally goes on to the end
 rows_tested : (before : List Row) (c : Counts) (table : List ℕ) (rows : List Row) → Good before c table → rows_test before c table rows ≡ true → (more : List ℕ) × Good (before ++ rows) (counts_after c rows) more
-rows_tested before c table [] good e = (table, rw (← (append-nil before)) at good)
+rows_tested before c table [] good e = (table, rw (← append-nil before) at good)
 rows_tested before c table (row ∷ rows) good e =
     let p = and_parts (row_test before c table row) _ e in
     let w = rows_tested (before ++ (row ∷ [])) _ _ rows (row_tested before c table row good p.0) p.1 in
