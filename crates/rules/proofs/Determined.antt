@@ -92,7 +92,7 @@ module _ (G : Game) where
 
   same_call : (K : List Pending) (l : ℕ) (μ : Memory) (P : List ℕ) (a b : Pass) (q r : Position) → CallStep K l μ P a q → CallStep K l μ P b r → first_moves a ≡ first_moves b → (a ≡ b) × (q ≡ r)
   same_call K l μ P a b q r c d e =
-      let is : first_moves (host_call c.0 c.4) ≡ first_moves (host_call d.0 d.4) = ap first_moves (sym c.8) ∙ e ∙ ap first_moves d.8 in
+      let is : first_moves (host_call c.0 c.4) ≡ first_moves (host_call d.0 d.4) = cc in
       let m : c.0 ≡ d.0 = cc in
       let ws : four (words c.4) ≡ four (words d.4) = cc in
       let θ : c.2 ≡ d.2 = cc in
@@ -104,7 +104,7 @@ module _ (G : Game) where
 
   same_answer : (K : List Pending) (l : ℕ) (μ : Memory) (P : List ℕ) (a b : Pass) (q r : Position) → AnswerStep K l μ P a q → AnswerStep K l μ P b r → first_moves a ≡ first_moves b → (a ≡ b) × (q ≡ r)
   same_answer K l μ P a b q r c d e =
-      let is : first_moves (host_answer c.0 c.4) ≡ first_moves (host_answer d.0 d.4) = ap first_moves (sym c.10) ∙ e ∙ ap first_moves d.10 in
+      let is : first_moves (host_answer c.0 c.4) ≡ first_moves (host_answer d.0 d.4) = cc in
       let m : c.0 ≡ d.0 = cc in
       let ws : four (words c.4) ≡ four (words d.4) = cc in
       let E : c.1 ≡ d.1 = cc in
@@ -118,7 +118,7 @@ module _ (G : Game) where
 
   not_both : (K : List Pending) (l : ℕ) (μ : Memory) (P : List ℕ) (a b : Pass) (q r : Position) → CallStep K l μ P a q → AnswerStep K l μ P b r → first_moves a ≡ first_moves b → ⊥
   not_both K l μ P a b q r c d e =
-      let is : first_moves (host_call c.0 c.4) ≡ first_moves (host_answer d.0 d.4) = ap first_moves (sym c.8) ∙ e ∙ ap first_moves d.10 in
+      let is : first_moves (host_call c.0 c.4) ≡ first_moves (host_answer d.0 d.4) = cc in
       cc
 
   same_step : (K : List Pending) (l : ℕ) (μ : Memory) (P : List ℕ) (a b : Pass) (q r : Position) → HostStep K l μ P a q → HostStep K l μ P b r → first_moves a ≡ first_moves b → (a ≡ b) × (q ≡ r)
@@ -146,7 +146,7 @@ module _ (G : Game) where
       ap (λ z. z ++ host_moves x) (sym v.1) ∙ sym (moves_first a x) ∙ e ∙ moves_first b y ∙ ap (λ z. z ++ host_moves y) w.1
       in
       let one : v.0 ≡ w.0 = cc in
-      same_step K l μ P a b q r c' d' (v.1 ∙ ap (λ z. z ∷ []) one ∙ sym w.1)
+      same_step K l μ P a b q r c' d' (cc)
 
   -- a step inside the library is the only one
   pub one_inside : (p q r : Position) → G ⊢ p ─ none ⟹ q → G ⊢ p ─ none ⟹ r → q ≡ r
@@ -239,5 +239,5 @@ module _ (G : Game) where
 
 pub moves_determine_the_play : MovesDetermineThePlay
 moves_determine_the_play G moves x y =
-    let a = alike G _ _ _ 0 _ _ x.trace y.trace x.ending y.ending x.steps y.steps x.play.run x.play.ends y.play.run y.play.ends (x.moved ∙ sym y.moved) in
+    let a = alike G _ _ _ 0 _ _ x.trace y.trace x.ending y.ending x.steps y.steps x.play.run x.play.ends y.play.run y.play.ends (cc) in
     record { same_trace = a.0; same_ending = a.1; same_steps = a.2 }

@@ -102,7 +102,7 @@ module _ (G : Game) where
     words_apart : (vs ws : List ℤ) → WordsBefore list vs ws → vs ≡ ws → ⊥
     words_apart vs ws (order.differ {v} {w} p q lt b d e) same =
         let x : v ≡ w = cc in
-        let y = law.once p q (omega arith) b (sym d ∙ x ∙ e) in
+        let y = law.once p q (omega arith) b (cc) in
         omega arith
     words_apart vs ws (order.agree {vs = a} {ws = b} d h) same = words_apart a b h (cc)
 

@@ -19,7 +19,7 @@ stands_behind m n P (order.later s) = Memᴰ.tail (stands_behind m n _ s)
 
 -- of two numbers of a list without repetition, not each stands before the other
 stands_one_way : (m n : ℕ) (P : List ℕ) → Distinct P → StandsBefore m n P → StandsBefore n m P → ⊥
-stands_one_way m n P once (order.here e i) (order.here d j) = once m n (order.here e i) (e ∙ sym d)
+stands_one_way m n P once (order.here e i) (order.here d j) = once m n (order.here e i) (cc)
 stands_one_way m n P once (order.here e i) (order.later s) = once m m (order.here e (stands_behind n m _ s)) refl
 stands_one_way m n P once (order.later s) (order.here d j) = once n n (order.here d (stands_behind m n _ s)) refl
 stands_one_way m n P once (order.later s) (order.later r) = stands_one_way m n _ (λ a b x e. once a b (order.later x) e) s r
@@ -54,11 +54,11 @@ module _ (G : Game) (list : WordList) (law : Listed G.meaning list) where
   -- of two values, not each comes before the other by its words
   words_one_way : (vs ws : List ℤ) → WordsBefore list vs ws → WordsBefore list ws vs → ⊥
   words_one_way vs ws (order.differ p q lt b d e) (order.differ p' q' lt' b' d' e') =
-      let x = law.once p q' (omega arith) b' (sym d ∙ e') in
-      let y = law.once q p' b (omega arith) (sym e ∙ d') in
+      let x = law.once p q' (omega arith) b' (cc) in
+      let y = law.once q p' b (omega arith) (cc) in
       omega arith
-  words_one_way vs ws (order.differ p q lt b d e) (order.agree same h) = let x = law.once p q (omega arith) b (sym d ∙ sym same ∙ e) in omega arith
-  words_one_way vs ws (order.agree same h) (order.differ p q lt b d e) = let x = law.once p q (omega arith) b (sym d ∙ sym same ∙ e) in omega arith
+  words_one_way vs ws (order.differ p q lt b d e) (order.agree same h) = let x = law.once p q (omega arith) b (cc) in omega arith
+  words_one_way vs ws (order.agree same h) (order.differ p q lt b d e) = let x = law.once p q (omega arith) b (cc) in omega arith
   words_one_way vs ws (order.agree same h) (order.agree other k) = words_one_way _ _ h k
 
   -- of two moves, not each is ahead of the other
@@ -77,7 +77,7 @@ module _ (G : Game) (list : WordList) (law : Listed G.meaning list) where
       let other = run_distinct G _ _ _ _ _ d.run (public_distinct 0 G.rows) in
       let w =
       first_difference (host_moves b.trace) (host_moves d.trace) b.first b.second d.second d.first b.after_first b.after_second d.after_second d.after_first
-      (sym b.earlier_is ∙ d.later_is) (sym b.later_is ∙ d.earlier_is)
+      (cc) (cc)
       (λ e. ahead_apart G list law b.shown b.first b.second once b.ahead e) (λ e. ahead_apart G list law d.shown d.first d.second other d.ahead (sym e))
       in
       let P = same_turn G _ _ _ _ _ _ _ _ _ 0 _ _ b.trace d.trace b.run d.run w.0 in

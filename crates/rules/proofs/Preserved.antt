@@ -120,7 +120,7 @@ module _ (V : ℕ → Tree) (Γ : List Tree) (A : Meaning) where
       held : (ρ : Tree) → at Γ r ≡ some ρ → Typed V Γ A Σ [] ⌊ v ⌋ ρ
       held ρ k =
           let g = back (GlobalOk Σ) μ.globals Γ r ρ h.0.1 k in
-          let f : some g.0 ≡ some v = sym g.1 ∙ e in
+          let f : some g.0 ≡ some v = cc in
           let same : g.0 ≡ v = cc in
           rw same at g.2
   preserved closed Σ θ c d (step.write E r v {μ}) h =
@@ -132,7 +132,7 @@ module _ (V : ℕ → Tree) (Γ : List Tree) (A : Meaning) where
       let p = plugged V Γ A Σ E (app (meth m) ⌊ v ⌋) θ h.1 in
       let k = p.1 in
       let f = across (EntryOk Σ) μ.names Σ m (library_name x ρ M) h.0.0 e in
-      let g : some f.0 ≡ some (function_type k.0 p.0) = sym f.1 ∙ k.1 in
+      let g : some f.0 ≡ some (function_type k.0 p.0) = cc in
       let t : function_type k.0 p.0 ≡ function_type ρ f.2.0 = (let s : f.0 ≡ function_type k.0 p.0 = cc in sym s ∙ f.2.1) in
       (Σ, (λ n σ a. a), (h.0, p.2 Σ (λ n σ a. a) ⟪ M ⟨ v / x ⟩ ⟫ (inside k.0 p.0 ρ f.2.0 f.2.2 f.2.3 k.2 t)), omega arith)
     where
@@ -184,7 +184,7 @@ module _ (V : ℕ → Tree) (Γ : List Tree) (A : Meaning) where
 
   -- a host name has one type
   one_type : (Σ : List Tree) (m : ℕ) (θ ρ : Tree) → at Σ m ≡ some θ → at Σ m ≡ some ρ → θ ≡ ρ
-  one_type Σ m θ ρ d e = let s : some θ ≡ some ρ = sym d ∙ e in cc
+  one_type Σ m θ ρ d e = let s : some θ ≡ some ρ = cc in cc
 
 module _ (G : Game) (V : ℕ → Tree) (Γ : List Tree) (closed : Closed G.meaning) (small : (x : ℕ) → Small (V x)) where
   abbrev A : Meaning
@@ -210,7 +210,7 @@ module _ (G : Game) (V : ℕ → Tree) (Γ : List Tree) (closed : Closed G.meani
       let e = across (EntryOk V Γ A ok.0) μ.names ok.0 m (host_name θ θ') ok.1.0 h in
       let few : Small θ' = e.2.2 in
       let k = said_typed V Γ A closed θ' μ.names v R s ok.0 few ok.1.0 in
-      let t : function_type w.0 w.1 ≡ function_type θ θ' = one_type V Γ A ok.0 m (function_type w.0 w.1) (function_type θ θ') w.3 (e.1 ∙ ap some e.2.0) in
+      let t : function_type w.0 w.1 ≡ function_type θ θ' = cc in
       let r : θ' ≡ w.1 = cc in
       let goes : Typed V Γ A k.0 [] (plug E ⌊ v ⌋) w.2 = w.4 k.0 k.1 ⌊ v ⌋ (rw (← r) k.3) in
       ((k.0, w.2, (k.2, globals_grow V Γ A ok.0 k.0 k.1 μ.globals Γ ok.1.1), goes, pending_grow V Γ A ok.0 k.0 k.1 true K w.5), omega (arith, k.4, few_leaves θ' few))

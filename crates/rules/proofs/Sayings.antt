@@ -24,7 +24,7 @@ listed_word (suc n) f w (Memᴰ.tail i) = let x = listed_word n (λ q. f (suc q)
 
 each_in : (R : List Entry) (w : ℤ) (ws : List ℤ) → Memᴰ w ws → Memᴰ (saying (word w) R) (each_word R ws)
 each_in R w [] i = absurd (Memᴰ.not-nil i)
-each_in R w (v ∷ ws) (Memᴰ.head e) = Memᴰ.head (ap (λ x. saying (word x) R) e)
+each_in R w (v ∷ ws) (Memᴰ.head e) = Memᴰ.head (cc)
 each_in R w (v ∷ ws) (Memᴰ.tail i) = Memᴰ.tail (each_in R w ws i)
 
 pub in_each : (R R' : List Entry) (v : Value) (ws : List ℤ) → Memᴰ (saying v R') (each_word R ws) → (w : ℤ) × Memᴰ w ws × (v ≡ word w) × (R' ≡ R)
@@ -206,7 +206,7 @@ module _ (G : Game) (list : WordList) (law : Listed G.meaning list) where
   move_listed p q b a (rule.host_calls m x l θ M v R {K} {μ} {P} i lt h s) e =
       let same : a ≡ host_call m v = cc in
       let listed : Memᴰ (reply (host_call m v) q) (replies G list K l μ P) = rw (lt-ltb l G.bounds.insistence lt) (Memᴰ.append_left _ (calls_in K l μ P P m x θ M v R i h s)) in
-      Memᴰ.cast (ap (λ x. reply x q) same) listed
+      Memᴰ.cast (cc) listed
   move_listed p q b a (rule.host_answers m l E θ θ' v R {K} {μ} {P} h s) e =
       let same : a ≡ host_answer m v = cc in
-      Memᴰ.cast (ap (λ x. reply x q) same) (Memᴰ.append_right (where_true (ltb l G.bounds.insistence) (calls G list P (library_waits m E ∷ K) l μ P)) (answers_in m E K μ P θ θ' v R h s))
+      Memᴰ.cast (cc) (Memᴰ.append_right (where_true (ltb l G.bounds.insistence) (calls G list P (library_waits m E ∷ K) l μ P)) (answers_in m E K μ P θ θ' v R h s))

@@ -138,7 +138,7 @@ module _ (G : Game) (closed : Closed G.meaning) where
 
     call_told : (a b : Pass) (q r : Position) (x y : List ℕ) → Few (host_turn K l μ P) → Few q → Few r → CallStep G K l μ P a q → CallStep G K l μ P b r → line_of (pass_fields a) ++ x ≡ line_of (pass_fields b) ++ y → (a ≡ b) × (x ≡ y)
     call_told a b q r x y few fq fr c d e =
-        let lines : line_of (pass_fields (host_call c.0 c.4)) ++ x ≡ line_of (pass_fields (host_call d.0 d.4)) ++ y = ap (λ z. line_of (pass_fields z) ++ x) (sym c.8) ∙ e ∙ ap (λ z. line_of (pass_fields z) ++ y) d.8 in
+        let lines : line_of (pass_fields (host_call c.0 c.4)) ++ x ≡ line_of (pass_fields (host_call d.0 d.4)) ++ y = cc in
         let told = line_tells (codes "H") (codes "H") (codes "call" ∷ name_field c.0 ∷ leaf_fields c.4) (codes "call" ∷ name_field d.0 ∷ leaf_fields d.4) x y (call_fields_free a q few fq c) (call_fields_free b r few fr d) lines in
         let fields = told.0 in
         let names : decimal c.0 ≡ decimal d.0 = cc in
@@ -148,12 +148,12 @@ module _ (G : Game) (closed : Closed G.meaning) where
         let m : c.0 ≡ d.0 = same_decimal c.0 d.0 (omega arith) (omega arith) names in
         let θ : c.2 ≡ d.2 = cc in
         let says : Says G.meaning c.2 μ.names d.4 d.5 = rw (← θ) at d.7 in
-        let v = leaves_tell G.meaning closed c.2 μ.names c.4 d.4 c.5 d.5 [] [] (said _ _ _ _ _ c.7) (said _ _ _ _ _ says) (sayable G.meaning closed _ _ _ _ c.7) (sayable G.meaning closed _ _ _ _ d.7) (ap (λ z. z ++ []) leaves) in
+        let v = leaves_tell G.meaning closed c.2 μ.names c.4 d.4 c.5 d.5 [] [] (said _ _ _ _ _ c.7) (said _ _ _ _ _ says) (sayable G.meaning closed _ _ _ _ c.7) (sayable G.meaning closed _ _ _ _ d.7) (cc) in
         (let value = v.0 in cc, told.1)
 
     answer_told : (a b : Pass) (q r : Position) (x y : List ℕ) → Few (host_turn K l μ P) → Few q → Few r → AnswerStep G K l μ P a q → AnswerStep G K l μ P b r → line_of (pass_fields a) ++ x ≡ line_of (pass_fields b) ++ y → (a ≡ b) × (x ≡ y)
     answer_told a b q r x y few fq fr c d e =
-        let lines : line_of (pass_fields (host_answer c.0 c.4)) ++ x ≡ line_of (pass_fields (host_answer d.0 d.4)) ++ y = ap (λ z. line_of (pass_fields z) ++ x) (sym c.10) ∙ e ∙ ap (λ z. line_of (pass_fields z) ++ y) d.10 in
+        let lines : line_of (pass_fields (host_answer c.0 c.4)) ++ x ≡ line_of (pass_fields (host_answer d.0 d.4)) ++ y = cc in
         let told = line_tells (codes "H") (codes "H") (codes "ret" ∷ name_field c.0 ∷ leaf_fields c.4) (codes "ret" ∷ name_field d.0 ∷ leaf_fields d.4) x y (answer_fields_free a q few fq c) (answer_fields_free b r few fr d) lines in
         let fields = told.0 in
         let names : decimal c.0 ≡ decimal d.0 = cc in
@@ -163,13 +163,13 @@ module _ (G : Game) (closed : Closed G.meaning) where
         let m : c.0 ≡ d.0 = same_decimal c.0 d.0 (omega arith) (omega arith) names in
         let θ : c.3 ≡ d.3 = cc in
         let says : Says G.meaning c.3 μ.names d.4 d.5 = rw (← θ) at d.8 in
-        let v = leaves_tell G.meaning closed c.3 μ.names c.4 d.4 c.5 d.5 [] [] (said _ _ _ _ _ c.8) (said _ _ _ _ _ says) (sayable G.meaning closed _ _ _ _ c.8) (sayable G.meaning closed _ _ _ _ d.8) (ap (λ z. z ++ []) leaves) in
+        let v = leaves_tell G.meaning closed c.3 μ.names c.4 d.4 c.5 d.5 [] [] (said _ _ _ _ _ c.8) (said _ _ _ _ _ says) (sayable G.meaning closed _ _ _ _ c.8) (sayable G.meaning closed _ _ _ _ d.8) (cc) in
         (let value = v.0 in cc, told.1)
 
     -- a call's line is not an answer's
     not_told : (a b : Pass) (q r : Position) (x y : List ℕ) → Few (host_turn K l μ P) → Few q → Few r → CallStep G K l μ P a q → AnswerStep G K l μ P b r → line_of (pass_fields a) ++ x ≡ line_of (pass_fields b) ++ y → ⊥
     not_told a b q r x y few fq fr c d e =
-        let lines : line_of (pass_fields (host_call c.0 c.4)) ++ x ≡ line_of (pass_fields (host_answer d.0 d.4)) ++ y = ap (λ z. line_of (pass_fields z) ++ x) (sym c.8) ∙ e ∙ ap (λ z. line_of (pass_fields z) ++ y) d.10 in
+        let lines : line_of (pass_fields (host_call c.0 c.4)) ++ x ≡ line_of (pass_fields (host_answer d.0 d.4)) ++ y = cc in
         let told = line_tells (codes "H") (codes "H") (codes "call" ∷ name_field c.0 ∷ leaf_fields c.4) (codes "ret" ∷ name_field d.0 ∷ leaf_fields d.4) x y (call_fields_free a q few fq c) (answer_fields_free b r few fr d) lines in
         let fields = told.0 in
         cc
@@ -186,14 +186,14 @@ module _ (G : Game) (closed : Closed G.meaning) where
       let s = step_next G (library_runs K M μ P) q (some a) h in
       let s' = step_next G (library_runs K M μ P) r (some b) k in
       let same : a ≡ b = cc in
-      (same, (cc), append_cancel_left (line_of (pass_fields a)) x y (e ∙ ap (λ z. line_of (pass_fields z) ++ y) (sym same)))
+      (same, (cc), append_cancel_left (line_of (pass_fields a)) x y (cc))
   pass_told (host_turn K l μ P) q r a b x y few fq fr h k e =
       let c = host_step G (host_turn K l μ P) q (some a) h in
       let d = host_step G (host_turn K l μ P) r (some b) k in
       let i : c.0 ≡ a = cc in
       let j : d.0 ≡ b = cc in
       let told = host_told K l μ P a b q r x y few fq fr (rw i at c.2) (rw j at d.2) e in
-      let one = one_pass G (host_turn K l μ P) q r a b [] [] h k (ap (λ z. host_moves (z ∷ [])) told.0) in
+      let one = one_pass G (host_turn K l μ P) q r a b [] [] h k (cc) in
       (told.0, one.1, told.1)
 
   -- the line of an end is no move's

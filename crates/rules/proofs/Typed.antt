@@ -84,7 +84,7 @@ module _ (V : ℕ → Tree) (Γ : List Tree) (A : Meaning) where
   hidden x z Δ Δ' e s y (Memᴰ.tail i) = go (s y i)
     where
       go : (y ≡ x) ⊎ Memᴰ y Δ' → Memᴰ y (z ∷ Δ')
-      go (inl d) = Memᴰ.head (d ∙ sym e)
+      go (inl d) = Memᴰ.head (cc)
       go (inr j) = Memᴰ.tail j
 
   module _ (Σ : List Tree) (v : Value) (x : ℕ) (hv : Typed Σ [] ⌊ v ⌋ (V x)) where

@@ -52,7 +52,7 @@ NoneFailed plays = (x : Played) → Memᴰ x plays → ending_of x ≡ failed �
 
 -- with a play that has not failed, still none has failed
 one_more : (x : Played) (plays : List Played) → (ending_of x ≡ failed → ⊥) → NoneFailed plays → NoneFailed (x ∷ plays)
-one_more x plays here rest y (Memᴰ.head e) d = here (ap ending_of (sym e) ∙ d)
+one_more x plays here rest y (Memᴰ.head e) d = here (cc)
 one_more x plays here rest y (Memᴰ.tail i) d = rest y i d
 
 -- trying the plays, after n and with the marks so far, comes to safe with this count and these marks
@@ -86,7 +86,7 @@ lost_more : (x : Played) (plays : List Played) (n : ℕ) (d d' s s' : Bool) (tra
 lost_more x plays n d d' s s' trace steps m e t here p q h = record {
   before = x ∷ h.before;
   after = h.after;
-  parts = ap (λ (z : List Played). x ∷ z) h.parts;
+  parts = cc;
   none_failed = one_more x h.before here h.none_failed;
   as_many = let k = h.as_many in omega arith;
   depth_is = h.depth_is ∙ p (some_so by_depth h.before);
@@ -131,7 +131,7 @@ found_lost (played trace' failed steps' ∷ plays) n d s trace steps m e t h =
     record {
       before = [];
       after = plays;
-      parts = ap (λ (w : List Pass). played w failed steps' ∷ plays) a ∙ ap (λ (k : ℕ). played trace failed k ∷ plays) b;
+      parts = cc;
       none_failed = λ p i. absurd (Memᴰ.not-nil i);
       as_many = omega arith;
       depth_is = sym y ∙ sym (or-false d);
@@ -156,7 +156,7 @@ some_found so (x ∷ plays) e = go (so (ending_of x)) refl e (some_found so play
 -- a play with such an ending is some play of the list
 found_some : (so : Ending → Bool) (plays : List Played) (x : Played) → Memᴰ x plays → so (ending_of x) ≡ true → some_so so plays ≡ true
 found_some so [] x i e = absurd (Memᴰ.not-nil i)
-found_some so (y ∷ plays) x (Memᴰ.head d) e = ap (λ (b : Bool). b || some_so so plays) (ap (λ (z : Played). so (ending_of z)) (sym d) ∙ e)
+found_some so (y ∷ plays) x (Memᴰ.head d) e = cc
 found_some so (y ∷ plays) x (Memᴰ.tail i) e = go (so (ending_of y)) (found_some so plays x i e)
   where
     go : (b : Bool) → some_so so plays ≡ true → (b || some_so so plays) ≡ true
@@ -165,7 +165,7 @@ found_some so (y ∷ plays) x (Memᴰ.tail i) e = go (so (ending_of y)) (found_s
 
 -- a play with another ending behind the list changes nothing
 some_append : (so : Ending → Bool) (xs : List Played) (trace : List Pass) (e : Ending) (steps : ℕ) → so e ≡ false → some_so so (xs ++ (played trace e steps ∷ [])) ≡ some_so so xs
-some_append so [] trace e steps h = ap (λ (b : Bool). b || false) h
+some_append so [] trace e steps h = cc
 some_append so (x ∷ xs) trace e steps h = ap (λ (b : Bool). so (ending_of x) || b) (some_append so xs trace e steps h)
 
 -- only one ending is a cut by depth
@@ -209,8 +209,8 @@ module _ (G : Game) (list : WordList) (law : Listed G.meaning list) (plays : Lis
     marked so ending only is false e = λ c.
         let w = Memᴰ.of_map moves_of part (in_part c.0 c.1) in
         let ends = same_ending c.0 c.2 w.0 (sub w.0 w.1) w.2 in
-        let found = found_some so part w.0 w.1 (ap so (sym ends ∙ c.3) ∙ is) in
-        let z : true ≡ false = sym found ∙ e in
+        let found = found_some so part w.0 w.1 (cc) in
+        let z : true ≡ false = cc in
         cc
 
     -- the count and both marks of the plays that were tried
