@@ -43,10 +43,10 @@ limits_stable b r h = (first (order (count (section r) b) (limit (section r))), 
 
     first : (count (section r) b < limit (section r)) ⊎ (limit (section r) ≤ count (section r) b) → count (section r) b < limit (section r)
     first (inl lt) = lt
-    first (inr ge) = absurd (no (λ w. let x = w.section_limit in omega arith))
+    first (inr ge) = absurd (no (λ w. omega arith))
 
     second : (4 < row_leaves b r) ⊎ (row_leaves b r ≤ 4) → row_leaves b r ≤ 4
-    second (inl lt) = absurd (no (λ w. let x = w.four_leaves in omega arith))
+    second (inl lt) = absurd (no (λ w. omega arith))
     second (inr ge) = ge
 
 -- the listed types are small

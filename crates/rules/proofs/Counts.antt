@@ -37,6 +37,6 @@ losing_is_full G moves x = record {
   trace = x.play.trace;
   ending = x.play.ending;
   steps = x.play.steps;
-  full = record { play = x.play.play; no_more = λ d. let e = x.lost in cc };
+  full = record { play = x.play.play; no_more = λ d. cc };
   moved = x.play.moved;
 }

@@ -28,7 +28,7 @@ said A θ R v R' rule.says_function = (refl, refl)
 
 -- the words that begin a list tell the value at a type
 words_tell : (A : Meaning) (θ : Tree) (R : List Entry) (v w : Value) (R' R'' : List Entry) (x y : List ℤ) → Said A θ R v R' → Said A θ R w R'' → words v ++ x ≡ words w ++ y → (v ≡ w) × (R' ≡ R'') × (x ≡ y)
-words_tell A unit_type R v w R' R'' x y h k e = let d = rw (h.0, k.0) at e in ((cc), (cc), (cc))
+words_tell A unit_type R v w R' R'' x y h k e = ((cc), (cc), (cc))
 words_tell A int_type R v w R' R'' x y h k e = let d = rw (h.1, k.1) at e in ((cc), (cc), (cc))
 words_tell A (pair_type θ θ') R v w R' R'' x y h k e =
     let d = simp append_assoc at (rw (h.5, k.5) at e) in
@@ -118,7 +118,6 @@ module _ (G : Game) where
 
   not_both : (K : List Pending) (l : ℕ) (μ : Memory) (P : List ℕ) (a b : Pass) (q r : Position) → CallStep K l μ P a q → AnswerStep K l μ P b r → first_moves a ≡ first_moves b → ⊥
   not_both K l μ P a b q r c d e =
-      let is : first_moves (host_call c.0 c.4) ≡ first_moves (host_answer d.0 d.4) = cc in
       cc
 
   same_step : (K : List Pending) (l : ℕ) (μ : Memory) (P : List ℕ) (a b : Pass) (q r : Position) → HostStep K l μ P a q → HostStep K l μ P b r → first_moves a ≡ first_moves b → (a ≡ b) × (q ≡ r)

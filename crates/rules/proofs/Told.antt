@@ -96,7 +96,7 @@ module _ (A : Meaning) (closed : Closed A) where
 
   -- the leaves tell the value at a type
   leaves_tell : (θ : Tree) (R : List Entry) (v w : Value) (R' R'' : List Entry) (x y : List (List ℕ)) → Said A θ R v R' → Said A θ R w R'' → Sayable v → Sayable w → leaf_fields v ++ x ≡ leaf_fields w ++ y → (v ≡ w) × (R' ≡ R'') × (x ≡ y)
-  leaves_tell unit_type R v w R' R'' x y h k i j e = let d = rw (h.0, k.0) at e in ((cc), (cc), (cc))
+  leaves_tell unit_type R v w R' R'' x y h k i j e = ((cc), (cc), (cc))
   leaves_tell int_type R v w R' R'' x y h k i j e =
       let d = rw (h.1, k.1) at e in
       let one : signed_decimal h.0 ≡ signed_decimal k.0 = cc in

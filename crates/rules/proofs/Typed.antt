@@ -187,17 +187,17 @@ module _ (V : ℕ → Tree) (Γ : List Tree) (A : Meaning) where
     on_word_fine θ k unit h g = cc
     on_word_fine θ k (word i) h g = g i
     on_word_fine θ k (name m) h g = absurd (name_no_int m h)
-    on_word_fine θ k (pair v w) h g = let e = h.2 in cc
+    on_word_fine θ k (pair v w) h g = cc
 
     on_name_fine : (ρ σ θ : Tree) (k : ℕ → Parts) (v : Value) → Typed Σ [] ⌊ v ⌋ (function_type ρ σ) → ((m : ℕ) → Fine Σ θ (k m)) → Fine Σ θ (on_name k v)
     on_name_fine ρ σ θ k unit h g = cc
-    on_name_fine ρ σ θ k (word i) h g = let e = h.0 in cc
+    on_name_fine ρ σ θ k (word i) h g = cc
     on_name_fine ρ σ θ k (name m) h g = g m
-    on_name_fine ρ σ θ k (pair v w) h g = let e = h.2 in cc
+    on_name_fine ρ σ θ k (pair v w) h g = cc
 
     on_pair_fine : (ρ σ θ : Tree) (k : Value → Value → Parts) (v : Value) → Typed Σ [] ⌊ v ⌋ (pair_type ρ σ) → ((a b : Value) → Fine Σ θ (k a b)) → Fine Σ θ (on_pair k v)
     on_pair_fine ρ σ θ k unit h g = cc
-    on_pair_fine ρ σ θ k (word i) h g = let e = h.0 in cc
+    on_pair_fine ρ σ θ k (word i) h g = cc
     on_pair_fine ρ σ θ k (name m) h g = absurd (name_no_pair m ρ σ h)
     on_pair_fine ρ σ θ k (pair v w) h g = g v w
 

@@ -51,7 +51,7 @@ all_stable b (p ∷ ps) h = go (all_stable b ps (λ no. h (λ both. no both.1)))
   where
     go : AllByRecursion (λ q. q.1 < count q.0 b) ps → (p.1 < count p.0 b) ⊎ (count p.0 b ≤ p.1) → AllByRecursion (λ q. q.1 < count q.0 b) (p ∷ ps)
     go rest (inl lt) = (lt, rest)
-    go rest (inr ge) = absurd (h (λ both. let x = both.0 in omega arith))
+    go rest (inr ge) = absurd (h (λ both. omega arith))
 
 refers_back : (b : List Row) (r : Row) → NoneOf (RowFault true b r) → RefersBack b r
 refers_back b r h = all_stable b (references r) (h Reference)

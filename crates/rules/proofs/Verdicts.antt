@@ -76,7 +76,7 @@ record FoundLost (plays : List Played) (n : ℕ) (d s : Bool) (trace : List Pass
 safe_more : (x : Played) (plays : List Played) (n : ℕ) (d d' s s' : Bool) (m : ℕ) (e t : Bool) → (ending_of x ≡ failed → ⊥) → ((b : Bool) → d' || b ≡ d || (by_depth (ending_of x) || b)) → ((b : Bool) → s' || b ≡ s || (by_steps (ending_of x) || b)) → FoundSafe plays (suc n) d' s' m e t → FoundSafe (x ∷ plays) n d s m e t
 safe_more x plays n d d' s s' m e t here p q h = record {
   none_failed = one_more x plays here h.none_failed;
-  as_many = let k = h.as_many in omega arith;
+  as_many = omega arith;
   depth_is = h.depth_is ∙ p (some_so by_depth plays);
   steps_is = h.steps_is ∙ q (some_so by_steps plays);
 }
@@ -88,7 +88,7 @@ lost_more x plays n d d' s s' trace steps m e t here p q h = record {
   after = h.after;
   parts = cc;
   none_failed = one_more x h.before here h.none_failed;
-  as_many = let k = h.as_many in omega arith;
+  as_many = omega arith;
   depth_is = h.depth_is ∙ p (some_so by_depth h.before);
   steps_is = h.steps_is ∙ q (some_so by_steps h.before);
 }
