@@ -240,7 +240,6 @@ playable_has_few_names G playable trace p t run =
     let m = playable.mounted in
     let l = playable.lawful in
     let closed = playable.closed in
-    let most = G.bounds.steps_limit.1 in
     let small : (x : ℕ) → Small (variable_type G.rows x) = λ x. listed_small G.rows G.meaning m l _ in
     let ok = run_ok G (variable_type G.rows) (global_types G.rows G.rows) closed small (start G) p 0 t trace run (start_ok G m l) in
     let begun = start_names G.rows G.meaning m l in

@@ -29,14 +29,14 @@ said A θ R v R' rule.says_function = (refl, refl)
 -- the words that begin a list tell the value at a type
 words_tell : (A : Meaning) (θ : Tree) (R : List Entry) (v w : Value) (R' R'' : List Entry) (x y : List ℤ) → Said A θ R v R' → Said A θ R w R'' → words v ++ x ≡ words w ++ y → (v ≡ w) × (R' ≡ R'') × (x ≡ y)
 words_tell A unit_type R v w R' R'' x y h k e = ((cc), (cc), (cc))
-words_tell A int_type R v w R' R'' x y h k e = let d = rw (h.1, k.1) at e in ((cc), (cc), (cc))
+words_tell A int_type R v w R' R'' x y h k e = ((cc), (cc), (cc))
 words_tell A (pair_type θ θ') R v w R' R'' x y h k e =
     let d = simp append_assoc at (rw (h.5, k.5) at e) in
     let first = words_tell A θ R h.0 k.0 h.2 k.2 _ _ (said A θ R _ _ h.3) (said A θ R _ _ k.3) d in
     let right : Says A θ' h.2 k.1 R'' = rw (← first.1) at k.4 in
     let second = words_tell A θ' h.2 h.1 k.1 R' R'' x y (said A θ' h.2 _ _ h.4) (said A θ' h.2 _ _ right) first.2 in
     ((cc), second.1, second.2)
-words_tell A (function_type θ θ') R v w R' R'' x y h k e = let d = rw (h.0, k.0) at e in ((cc), (cc), (cc))
+words_tell A (function_type θ θ') R v w R' R'' x y h k e = ((cc), (cc), (cc))
 
 -- a host move as a pass
 abbrev pub first_moves : Pass → List Move
@@ -92,27 +92,22 @@ module _ (G : Game) where
 
   same_call : (K : List Pending) (l : ℕ) (μ : Memory) (P : List ℕ) (a b : Pass) (q r : Position) → CallStep K l μ P a q → CallStep K l μ P b r → first_moves a ≡ first_moves b → (a ≡ b) × (q ≡ r)
   same_call K l μ P a b q r c d e =
-      let is : first_moves (host_call c.0 c.4) ≡ first_moves (host_call d.0 d.4) = cc in
       let m : c.0 ≡ d.0 = cc in
       let ws : four (words c.4) ≡ four (words d.4) = cc in
       let θ : c.2 ≡ d.2 = cc in
       let says : Says G.meaning c.2 μ.names d.4 d.5 = rw (← θ) at d.7 in
       let t = words_tell G.meaning c.2 μ.names c.4 d.4 c.5 d.5 _ _ (said _ _ _ _ _ c.7) (said _ _ _ _ _ says) ws in
-      let v = t.0 in
       let R = t.1 in
       ((cc), (cc))
 
   same_answer : (K : List Pending) (l : ℕ) (μ : Memory) (P : List ℕ) (a b : Pass) (q r : Position) → AnswerStep K l μ P a q → AnswerStep K l μ P b r → first_moves a ≡ first_moves b → (a ≡ b) × (q ≡ r)
   same_answer K l μ P a b q r c d e =
-      let is : first_moves (host_answer c.0 c.4) ≡ first_moves (host_answer d.0 d.4) = cc in
       let m : c.0 ≡ d.0 = cc in
       let ws : four (words c.4) ≡ four (words d.4) = cc in
-      let E : c.1 ≡ d.1 = cc in
       let L : c.6 ≡ d.6 = cc in
       let θ : c.3 ≡ d.3 = cc in
       let says : Says G.meaning c.3 μ.names d.4 d.5 = rw (← θ) at d.8 in
       let t = words_tell G.meaning c.3 μ.names c.4 d.4 c.5 d.5 _ _ (said _ _ _ _ _ c.8) (said _ _ _ _ _ says) ws in
-      let v = t.0 in
       let R = t.1 in
       ((cc), (cc))
 
@@ -144,7 +139,6 @@ module _ (G : Game) where
       let all : v.0 ∷ host_moves x ≡ w.0 ∷ host_moves y =
       ap (λ z. z ++ host_moves x) (sym v.1) ∙ sym (moves_first a x) ∙ e ∙ moves_first b y ∙ ap (λ z. z ++ host_moves y) w.1
       in
-      let one : v.0 ≡ w.0 = cc in
       same_step K l μ P a b q r c' d' (cc)
 
   -- a step inside the library is the only one

@@ -46,7 +46,7 @@ public_distinct m (row ∷ rows) a b s e = public_distinct m rows a b s e
 -- a number in a list stands there
 absent : (m : ℕ) (P : List ℕ) → stands m P ≡ false → Memᴰ m P → ⊥
 absent m [] e i = Memᴰ.not-nil i
-absent m (n ∷ P) e (Memᴰ.head d) = let x = (or_parts (eqb m n) (stands m P) e).0 in let y = eq-eqb m n d in cc
+absent m (n ∷ P) e (Memᴰ.head d) = let y = eq-eqb m n d in cc
 absent m (n ∷ P) e (Memᴰ.tail i) = absent m P (or_parts (eqb m n) (stands m P) e).1 i
 
 -- one number more behind a list that lacks it
@@ -101,7 +101,6 @@ module _ (G : Game) where
     -- words do not come before themselves
     words_apart : (vs ws : List ℤ) → WordsBefore list vs ws → vs ≡ ws → ⊥
     words_apart vs ws (order.differ {v} {w} p q lt b d e) same =
-        let x : v ≡ w = cc in
         let y = law.once p q (omega arith) b (cc) in
         omega arith
     words_apart vs ws (order.agree {vs = a} {ws = b} d h) same = words_apart a b h (cc)

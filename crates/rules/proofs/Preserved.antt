@@ -108,11 +108,11 @@ module _ (V : ℕ → Tree) (Γ : List Tree) (A : Meaning) where
   preserved closed Σ θ c d (step.first_part E v w {μ}) h = same_memory Σ θ E (fst (tuple ⌊ v ⌋ ⌊ w ⌋)) ⌊ v ⌋ μ h.0 h.1 (λ ρ k. left ρ k)
     where
       left : (ρ : Tree) → (σ : Tree) × ((a : Tree) × (b : Tree) × (pair_type ρ σ ≡ pair_type a b) × Typed V Γ A Σ [] ⌊ v ⌋ a × Typed V Γ A Σ [] ⌊ w ⌋ b) → Typed V Γ A Σ [] ⌊ v ⌋ ρ
-      left ρ k = let e = k.1.2 in let same : k.1.0 ≡ ρ = cc in rw same at k.1.3
+      left ρ k = let same : k.1.0 ≡ ρ = cc in rw same at k.1.3
   preserved closed Σ θ c d (step.second_part E v w {μ}) h = same_memory Σ θ E (snd (tuple ⌊ v ⌋ ⌊ w ⌋)) ⌊ w ⌋ μ h.0 h.1 (λ ρ k. right ρ k)
     where
       right : (ρ : Tree) → (σ : Tree) × ((a : Tree) × (b : Tree) × (pair_type σ ρ ≡ pair_type a b) × Typed V Γ A Σ [] ⌊ v ⌋ a × Typed V Γ A Σ [] ⌊ w ⌋ b) → Typed V Γ A Σ [] ⌊ w ⌋ ρ
-      right ρ k = let e = k.1.2 in let same : k.1.1 ≡ ρ = cc in rw same at k.1.4
+      right ρ k = let same : k.1.1 ≡ ρ = cc in rw same at k.1.4
   preserved closed Σ θ c d (step.if_true E i M N {μ} e) h = same_memory Σ θ E (ite (num i) M N) M μ h.0 h.1 (λ ρ k. k.1)
   preserved closed Σ θ c d (step.if_false E i M N {μ} e) h = same_memory Σ θ E (ite (num i) M N) N μ h.0 h.1 (λ ρ k. k.2)
   preserved closed Σ θ c d (step.read E r v {μ} e) h = same_memory Σ θ E (get r) ⌊ v ⌋ μ h.0 h.1 (λ ρ k. held ρ k)
@@ -120,7 +120,6 @@ module _ (V : ℕ → Tree) (Γ : List Tree) (A : Meaning) where
       held : (ρ : Tree) → at Γ r ≡ some ρ → Typed V Γ A Σ [] ⌊ v ⌋ ρ
       held ρ k =
           let g = back (GlobalOk Σ) μ.globals Γ r ρ h.0.1 k in
-          let f : some g.0 ≡ some v = cc in
           let same : g.0 ≡ v = cc in
           rw same at g.2
   preserved closed Σ θ c d (step.write E r v {μ}) h =
@@ -210,7 +209,6 @@ module _ (G : Game) (V : ℕ → Tree) (Γ : List Tree) (closed : Closed G.meani
       let e = across (EntryOk V Γ A ok.0) μ.names ok.0 m (host_name θ θ') ok.1.0 h in
       let few : Small θ' = e.2.2 in
       let k = said_typed V Γ A closed θ' μ.names v R s ok.0 few ok.1.0 in
-      let t : function_type w.0 w.1 ≡ function_type θ θ' = cc in
       let r : θ' ≡ w.1 = cc in
       let goes : Typed V Γ A k.0 [] (plug E ⌊ v ⌋) w.2 = w.4 k.0 k.1 ⌊ v ⌋ (rw (← r) k.3) in
       ((k.0, w.2, (k.2, globals_grow V Γ A ok.0 k.0 k.1 μ.globals Γ ok.1.1), goes, pending_grow V Γ A ok.0 k.0 k.1 true K w.5), omega (arith, k.4, few_leaves θ' few))

@@ -204,9 +204,7 @@ module _ (G : Game) (list : WordList) (law : Listed G.meaning list) where
   move_listed p q b a (rule.library_calls E m v θ θ' h) e = tt
   move_listed p q b a (rule.library_answers m l v) e = tt
   move_listed p q b a (rule.host_calls m x l θ M v R {K} {μ} {P} i lt h s) e =
-      let same : a ≡ host_call m v = cc in
       let listed : Memᴰ (reply (host_call m v) q) (replies G list K l μ P) = rw (lt-ltb l G.bounds.insistence lt) (Memᴰ.append_left _ (calls_in K l μ P P m x θ M v R i h s)) in
       Memᴰ.cast (cc) listed
   move_listed p q b a (rule.host_answers m l E θ θ' v R {K} {μ} {P} h s) e =
-      let same : a ≡ host_answer m v = cc in
       Memᴰ.cast (cc) (Memᴰ.append_right (where_true (ltb l G.bounds.insistence) (calls G list P (library_waits m E ∷ K) l μ P)) (answers_in m E K μ P θ θ' v R h s))

@@ -31,7 +31,6 @@ first_feed [] [] t u h k e = (refl, (cc))
 first_feed [] (y ∷ ys) t u h k e = let z : y ≡ 10 = cc in absurd (k.0 z)
 first_feed (x ∷ xs) [] t u h k e = let z : x ≡ 10 = cc in absurd (h.0 z)
 first_feed (x ∷ xs) (y ∷ ys) t u h k e =
-    let heads : x ≡ y = cc in
     let tails : xs ++ (10 ∷ t) ≡ ys ++ (10 ∷ u) = cc in
     let p = first_feed xs ys t u h.1 k.1 tails in
     ((cc), p.1)
@@ -98,7 +97,6 @@ module _ (A : Meaning) (closed : Closed A) where
   leaves_tell : (θ : Tree) (R : List Entry) (v w : Value) (R' R'' : List Entry) (x y : List (List ℕ)) → Said A θ R v R' → Said A θ R w R'' → Sayable v → Sayable w → leaf_fields v ++ x ≡ leaf_fields w ++ y → (v ≡ w) × (R' ≡ R'') × (x ≡ y)
   leaves_tell unit_type R v w R' R'' x y h k i j e = ((cc), (cc), (cc))
   leaves_tell int_type R v w R' R'' x y h k i j e =
-      let d = rw (h.1, k.1) at e in
       let one : signed_decimal h.0 ≡ signed_decimal k.0 = cc in
       let s = same_signed h.0 k.0 (fits h.0 (subst Sayable h.1 i)) (fits k.0 (subst Sayable k.1 j)) one in
       ((cc), (cc), (cc))
@@ -108,7 +106,7 @@ module _ (A : Meaning) (closed : Closed A) where
       let right : Says A θ' h.2 k.1 R'' = rw (← first.1) at k.4 in
       let second = leaves_tell θ' h.2 h.1 k.1 R' R'' x y (said A θ' h.2 _ _ h.4) (said A θ' h.2 _ _ right) (sayable θ' _ _ _ h.4) (sayable θ' _ _ _ k.4) first.2 in
       ((cc), second.1, second.2)
-  leaves_tell (function_type θ θ') R v w R' R'' x y h k i j e = let d = rw (h.0, k.0) at e in ((cc), (cc), (cc))
+  leaves_tell (function_type θ θ') R v w R' R'' x y h k i j e = ((cc), (cc), (cc))
 
 host_free : Free (codes "H")
 host_free = omega arith
@@ -140,38 +138,32 @@ module _ (G : Game) (closed : Closed G.meaning) where
     call_told a b q r x y few fq fr c d e =
         let lines : line_of (pass_fields (host_call c.0 c.4)) ++ x ≡ line_of (pass_fields (host_call d.0 d.4)) ++ y = cc in
         let told = line_tells (codes "H") (codes "H") (codes "call" ∷ name_field c.0 ∷ leaf_fields c.4) (codes "call" ∷ name_field d.0 ∷ leaf_fields d.4) x y (call_fields_free a q few fq c) (call_fields_free b r few fr d) lines in
-        let fields = told.0 in
         let names : decimal c.0 ≡ decimal d.0 = cc in
-        let leaves : leaf_fields c.4 ≡ leaf_fields d.4 = cc in
         let lc = inside _ μ.names c.0 c.6 in
         let ld = inside _ μ.names d.0 d.6 in
         let m : c.0 ≡ d.0 = same_decimal c.0 d.0 (omega arith) (omega arith) names in
         let θ : c.2 ≡ d.2 = cc in
         let says : Says G.meaning c.2 μ.names d.4 d.5 = rw (← θ) at d.7 in
         let v = leaves_tell G.meaning closed c.2 μ.names c.4 d.4 c.5 d.5 [] [] (said _ _ _ _ _ c.7) (said _ _ _ _ _ says) (sayable G.meaning closed _ _ _ _ c.7) (sayable G.meaning closed _ _ _ _ d.7) (cc) in
-        (let value = v.0 in cc, told.1)
+        (cc, told.1)
 
     answer_told : (a b : Pass) (q r : Position) (x y : List ℕ) → Few (host_turn K l μ P) → Few q → Few r → AnswerStep G K l μ P a q → AnswerStep G K l μ P b r → line_of (pass_fields a) ++ x ≡ line_of (pass_fields b) ++ y → (a ≡ b) × (x ≡ y)
     answer_told a b q r x y few fq fr c d e =
         let lines : line_of (pass_fields (host_answer c.0 c.4)) ++ x ≡ line_of (pass_fields (host_answer d.0 d.4)) ++ y = cc in
         let told = line_tells (codes "H") (codes "H") (codes "ret" ∷ name_field c.0 ∷ leaf_fields c.4) (codes "ret" ∷ name_field d.0 ∷ leaf_fields d.4) x y (answer_fields_free a q few fq c) (answer_fields_free b r few fr d) lines in
-        let fields = told.0 in
         let names : decimal c.0 ≡ decimal d.0 = cc in
-        let leaves : leaf_fields c.4 ≡ leaf_fields d.4 = cc in
         let lc = inside _ μ.names c.0 c.7 in
         let ld = inside _ μ.names d.0 d.7 in
-        let m : c.0 ≡ d.0 = same_decimal c.0 d.0 (omega arith) (omega arith) names in
         let θ : c.3 ≡ d.3 = cc in
         let says : Says G.meaning c.3 μ.names d.4 d.5 = rw (← θ) at d.8 in
         let v = leaves_tell G.meaning closed c.3 μ.names c.4 d.4 c.5 d.5 [] [] (said _ _ _ _ _ c.8) (said _ _ _ _ _ says) (sayable G.meaning closed _ _ _ _ c.8) (sayable G.meaning closed _ _ _ _ d.8) (cc) in
-        (let value = v.0 in cc, told.1)
+        (cc, told.1)
 
     -- a call's line is not an answer's
     not_told : (a b : Pass) (q r : Position) (x y : List ℕ) → Few (host_turn K l μ P) → Few q → Few r → CallStep G K l μ P a q → AnswerStep G K l μ P b r → line_of (pass_fields a) ++ x ≡ line_of (pass_fields b) ++ y → ⊥
     not_told a b q r x y few fq fr c d e =
         let lines : line_of (pass_fields (host_call c.0 c.4)) ++ x ≡ line_of (pass_fields (host_answer d.0 d.4)) ++ y = cc in
         let told = line_tells (codes "H") (codes "H") (codes "call" ∷ name_field c.0 ∷ leaf_fields c.4) (codes "ret" ∷ name_field d.0 ∷ leaf_fields d.4) x y (call_fields_free a q few fq c) (answer_fields_free b r few fr d) lines in
-        let fields = told.0 in
         cc
 
     host_told : (a b : Pass) (q r : Position) (x y : List ℕ) → Few (host_turn K l μ P) → Few q → Few r → HostStep G K l μ P a q → HostStep G K l μ P b r → line_of (pass_fields a) ++ x ≡ line_of (pass_fields b) ++ y → (a ≡ b) × (x ≡ y)

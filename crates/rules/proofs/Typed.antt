@@ -178,10 +178,10 @@ module _ (V : ℕ → Tree) (Γ : List Tree) (A : Meaning) where
 
   module _ (Σ : List Tree) (fs : Functions Σ) where
     name_no_int : (m : ℕ) → at Σ m ≡ some int_type → ⊥
-    name_no_int m h = let x = fs m int_type h in let e = x.2 in cc
+    name_no_int m h = let x = fs m int_type h in cc
 
     name_no_pair : (m : ℕ) (ρ σ : Tree) → at Σ m ≡ some (pair_type ρ σ) → ⊥
-    name_no_pair m ρ σ h = let x = fs m (pair_type ρ σ) h in let e = x.2 in cc
+    name_no_pair m ρ σ h = let x = fs m (pair_type ρ σ) h in cc
 
     on_word_fine : (θ : Tree) (k : ℤ → Parts) (v : Value) → Typed Σ [] ⌊ v ⌋ int_type → ((i : ℤ) → Fine Σ θ (k i)) → Fine Σ θ (on_word k v)
     on_word_fine θ k unit h g = cc

@@ -123,7 +123,6 @@ found_safe (played trace turn steps ∷ plays) n d s m e t h =
 found_lost : (plays : List Played) (n : ℕ) (d s : Bool) (trace : List Pass) (steps m : ℕ) (e t : Bool) → tried plays n d s ≡ lost trace steps m e t → FoundLost plays n d s trace steps m e t
 found_lost [] n d s trace steps m e t h = cc
 found_lost (played trace' failed steps' ∷ plays) n d s trace steps m e t h =
-    let a : trace' ≡ trace = cc in
     let b : steps' ≡ steps = cc in
     let c : suc n ≡ m = cc in
     let y : d ≡ e = cc in
@@ -210,7 +209,6 @@ module _ (G : Game) (list : WordList) (law : Listed G.meaning list) (plays : Lis
         let w = Memᴰ.of_map moves_of part (in_part c.0 c.1) in
         let ends = same_ending c.0 c.2 w.0 (sub w.0 w.1) w.2 in
         let found = found_some so part w.0 w.1 (cc) in
-        let z : true ≡ false = cc in
         cc
 
     -- the count and both marks of the plays that were tried
@@ -235,7 +233,7 @@ module _ (G : Game) (list : WordList) (law : Listed G.meaning list) (plays : Lis
         no_losing_play = λ moves x. h.none_failed _ (losing_listed moves x) refl;
         tried =
             tried_with plays (FullPlay G) (λ x i. i) (full_of G list law plays all) (listed_play G list law plays all) n d s
-            (let k : length plays ≡ n = (let a = h.as_many in omega arith) in subst (Counted (FullPlay G)) k (full_plays_are_counted G list law plays all).counted) h.depth_is h.steps_is;
+            (let k : length plays ≡ n = (omega arith) in subst (Counted (FullPlay G)) k (full_plays_are_counted G list law plays all).counted) h.depth_is h.steps_is;
       }
 
   module _ (trace : List Pass) (steps n : ℕ) (d s : Bool) (h : FoundLost plays 0 false false trace steps n d s) where
@@ -296,7 +294,7 @@ module _ (G : Game) (list : WordList) (law : Listed G.meaning list) (plays : Lis
           tried_with part (FullInRange G list none (host_moves trace)) part_inside
           (λ x i. range_in G list law plays all j (host_moves trace) at_j (moves_of x) (rw (← part_is) at (Memᴰ.map moves_of i)))
           (λ moves r. rw part_is at (in_range G list law plays all j (host_moves trace) at_j moves r)) n d s
-          (let k : suc j ≡ n = (let a = h.as_many in omega arith) in subst (Counted (FullInRange G list none (host_moves trace))) k ((full_plays_are_counted G list law plays all).counted_up_to j (host_moves trace) at_j))
+          (let k : suc j ≡ n = (omega arith) in subst (Counted (FullInRange G list none (host_moves trace))) k ((full_plays_are_counted G list law plays all).counted_up_to j (host_moves trace) at_j))
           (h.depth_is ∙ sym (some_append by_depth h.before trace failed steps refl)) (h.steps_is ∙ sym (some_append by_steps h.before trace failed steps refl));
     }
 
