@@ -79,11 +79,9 @@ module _ (G : Game) where
   AtHost (host_turn K l μ P) b q = (a : Pass) × (b ≡ some a) × HostStep K l μ P a q
 
   pub host_step : (p q : Position) (b : Option Pass) → G ⊢ p ─ b ⟹ q → AtHost p b q
-  host_step p q b (rule.internal h d) = tt
-  host_step p q b (rule.library_calls E m v θ θ' h) = tt
-  host_step p q b (rule.library_answers m l v) = tt
   host_step p q b (rule.host_calls m x l θ M v R i lt h s) = (host_call m v, refl, calling (m, x, θ, M, v, R, h, s, refl, refl))
   host_step p q b (rule.host_answers m l E θ θ' v R {K} h s) = (host_answer m v, refl, answering (m, E, θ, θ', v, R, K, h, s, refl, refl, refl))
+  host_step p q b h = tt
 
   -- the host's turn has a host move at each step
   one_move : (K : List Pending) (l : ℕ) (μ : Memory) (P : List ℕ) (a : Pass) (q : Position) → HostStep K l μ P a q → (mv : Move) × (first_moves a ≡ mv ∷ [])

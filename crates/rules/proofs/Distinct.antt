@@ -65,20 +65,17 @@ behind (j ∷ P) k m n (order.later s) = go (behind P k m n s)
     go (inr x) = inr (Memᴰ.tail x.0, x.1)
 
 show_distinct : (o : Option Entry) (b : Bool) (k : ℕ) (P : List ℕ) → stands k P ≡ b → Distinct P → Distinct (show_once o b k P)
-show_distinct none b k P d h = h
-show_distinct (some (host_name θ θ')) b k P d h = h
-show_distinct (some (library_name x θ M)) true k P d h = h
 show_distinct (some (library_name x θ M)) false k P d h = λ m n s e. go m n e (behind P k m n s)
   where
     go : (m n : ℕ) → m ≡ n → StandsBefore m n P ⊎ (Memᴰ m P × (n ≡ k)) → ⊥
     go m n e (inl x) = h m n x e
     go m n e (inr x) = absent k P d (Memᴰ.cast (sym (e ∙ x.1)) x.0)
+show_distinct o b k P d h = h
 
 shown_distinct : (R : List Entry) (v : Value) (P : List ℕ) → Distinct P → Distinct (shown R v P)
-shown_distinct R unit P h = h
-shown_distinct R (word i) P h = h
 shown_distinct R (name m) P h = show_distinct (at R m) (stands m P) m P refl h
 shown_distinct R (pair v w) P h = shown_distinct R w (shown R v P) (shown_distinct R v P h)
+shown_distinct R v P h = h
 
 abbrev shown_at : Position → List ℕ
 shown_at (library_runs K M μ P) = P
@@ -86,11 +83,9 @@ shown_at (host_turn K l μ P) = P
 
 module _ (G : Game) where
   step_distinct : (p q : Position) (b : Option Pass) → G ⊢ p ─ b ⟹ q → Distinct (shown_at p) → Distinct (shown_at q)
-  step_distinct p q b (rule.internal h d) x = x
   step_distinct p q b (rule.library_calls E m v θ θ' {K} {μ} {P} h) x = shown_distinct μ.names v P x
   step_distinct p q b (rule.library_answers m l v {K} {μ} {P}) x = shown_distinct μ.names v P x
-  step_distinct p q b (rule.host_calls m y l θ M v R i lt h s) x = x
-  step_distinct p q b (rule.host_answers m l E θ θ' v R h s) x = x
+  step_distinct p q b h x = x
 
   pub run_distinct : (p q : Position) (t u : ℕ) (trace : List Pass) → Run G p t trace q u → Distinct (shown_at p) → Distinct (shown_at q)
   run_distinct p q t u trace play.stays x = x

@@ -147,15 +147,13 @@ module _ (list : WordList) where
                 rw x.3 (order.called_with refl (words_extend list (words v) (words x.0) _ _ (h.0 (saying x.0 x.1) x.2)))
 
         calls_of_ascend : (o : Option Entry) (m : ℕ) → Ascending ReplyBefore (calls_of G list o m K l μ P)
-        calls_of_ascend none m = tt
-        calls_of_ascend (some (host_name θ θ')) m = tt
         calls_of_ascend (some (library_name x θ M)) m = calls_with_ascend m (sayings G list θ μ.names) (sayings_ascend θ μ.names)
+        calls_of_ascend o m = tt
 
         -- a call of one name, and of one of several
         calls_one : (o : Option Entry) (m : ℕ) (b : Pass) (r : Position) → Memᴰ (reply b r) (calls_of G list o m K l μ P) → (v : Value) × (b ≡ host_call m v)
-        calls_one none m b r i = absurd (Memᴰ.not-nil i)
-        calls_one (some (host_name θ θ')) m b r i = absurd (Memᴰ.not-nil i)
         calls_one (some (library_name x θ M)) m b r i = let w = in_with G list law K l μ P m b r (sayings G list θ μ.names) i in (w.0, w.3)
+        calls_one o m b r i = elim i [ ]
 
         calls_some : (ms : List ℕ) (b : Pass) (r : Position) → Memᴰ (reply b r) (calls G list ms K l μ P) → (n : ℕ) × (v : Value) × Memᴰ n ms × (b ≡ host_call n v)
         calls_some [] b r i = absurd (Memᴰ.not-nil i)
@@ -195,24 +193,20 @@ module _ (list : WordList) where
                 rw x.3 (order.answered_with refl (words_extend list (words v) (words x.0) _ _ (h.0 (saying x.0 x.1) x.2)))
 
         answers_of_ascend : (o : Option Entry) (m : ℕ) (E : Context) (K : List Pending) → Ascending ReplyBefore (answers_of G list o m E K μ P)
-        answers_of_ascend none m E K = tt
         answers_of_ascend (some (host_name θ θ')) m E K = answers_with_ascend m E K (sayings G list θ' μ.names) (sayings_ascend θ' μ.names)
-        answers_of_ascend (some (library_name x θ M)) m E K = tt
+        answers_of_ascend o m E K = tt
 
         answers_ascend : (K : List Pending) → Ascending ReplyBefore (answers G list K μ P)
-        answers_ascend [] = tt
-        answers_ascend (host_waits m l ∷ K) = tt
         answers_ascend (library_waits m E ∷ K) = answers_of_ascend (at μ.names m) m E K
+        answers_ascend K = tt
 
         answers_one : (o : Option Entry) (m : ℕ) (E : Context) (K : List Pending) (b : Pass) (r : Position) → Memᴰ (reply b r) (answers_of G list o m E K μ P) → (v : Value) × (b ≡ host_answer m v)
-        answers_one none m E K b r i = absurd (Memᴰ.not-nil i)
         answers_one (some (host_name θ θ')) m E K b r i = let w = in_answer G list law m E K μ P b r (sayings G list θ' μ.names) i in (w.0, w.3)
-        answers_one (some (library_name x θ M)) m E K b r i = absurd (Memᴰ.not-nil i)
+        answers_one o m E K b r i = elim i [ ]
 
         answers_some : (K : List Pending) (b : Pass) (r : Position) → Memᴰ (reply b r) (answers G list K μ P) → (n : ℕ) × (v : Value) × (b ≡ host_answer n v)
-        answers_some [] b r i = absurd (Memᴰ.not-nil i)
-        answers_some (host_waits m l ∷ K) b r i = absurd (Memᴰ.not-nil i)
         answers_some (library_waits m E ∷ K) b r i = let w = answers_one (at μ.names m) m E K b r i in (m, w.0, w.1)
+        answers_some K b r i = elim i [ ]
 
     replies_ascend : (law : Listed G.meaning list) (K : List Pending) (l : ℕ) (μ : Memory) (P : List ℕ) → Ascending (ReplyBefore P) (replies G list K l μ P)
     replies_ascend law K l μ P =

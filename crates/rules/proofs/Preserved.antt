@@ -155,13 +155,10 @@ module _ (V : ℕ → Tree) (Γ : List Tree) (A : Meaning) where
   PendingOk false Σ (library_waits m E ∷ K) = (ρ : Tree) × (σ : Tree) × (θ : Tree) × (at Σ m ≡ some (function_type ρ σ)) × Takes V Γ A Σ E σ θ × PendingOk true Σ K
 
   pending_grow : (Σ Σ' : List Tree) → Grows V Γ A Σ Σ' → (b : Bool) (K : List Pending) → PendingOk b Σ K → PendingOk b Σ' K
-  pending_grow Σ Σ' g true [] h = h
-  pending_grow Σ Σ' g false [] h = h
   pending_grow Σ Σ' g true (host_waits m l ∷ K) h = pending_grow Σ Σ' g false K h
-  pending_grow Σ Σ' g false (host_waits m l ∷ K) h = h
-  pending_grow Σ Σ' g true (library_waits m E ∷ K) h = h
   pending_grow Σ Σ' g false (library_waits m E ∷ K) h =
       (h.0, h.1, h.2, g m (function_type h.0 h.1) h.3, (λ Σ'' g' N k. h.4 Σ'' (λ n ρ d. g' n ρ (g n ρ d)) N k), pending_grow Σ Σ' g true K h.5)
+  pending_grow Σ Σ' g b K h = h
 
   abbrev pub PositionOk : Position → Type 0
   PositionOk (library_runs K M μ P) = (Σ : List Tree) × (θ : Tree) × MemoryOk Σ μ × Typed V Γ A Σ [] M θ × PendingOk true Σ K
@@ -226,9 +223,8 @@ module _ (G : Game) (V : ℕ → Tree) (Γ : List Tree) (closed : Closed G.meani
 
   -- a typed position is not stuck
   no_stuck_answer : (K : List Pending) (Σ : List Tree) (v : Value) (μ : Memory) (P : List ℕ) → PendingOk V Γ A true Σ K → answering K v μ P ≡ no_step → ⊥
-  no_stuck_answer [] Σ v μ P h e = h
-  no_stuck_answer (library_waits m E ∷ K) Σ v μ P h e = h
   no_stuck_answer (host_waits m l ∷ K) Σ v μ P h e = cc
+  no_stuck_answer K Σ v μ P h e = h
 
   bounded_some : (b : Bool) (q : Position) → bounded b q ≡ no_step → ⊥
   bounded_some true q e = cc
@@ -249,17 +245,10 @@ module _ (G : Game) (V : ℕ → Tree) (Γ : List Tree) (closed : Closed G.meani
     calling_some (some (library_name y θ M)) m v x d e = bounded_some _ _ e
 
     redex_some : (Σ : List Tree) (ρ : Tree) (r : Redex) → MemoryOk V Γ A Σ μ → Typed V Γ A Σ [] ⌈ r ⌉ ρ → continued G K E (contract A r μ) μ P ≡ no_step → ⊥
-    redex_some Σ ρ (lam! x θ M) h k e = bounded_some _ _ e
-    redex_some Σ ρ (let! x v M) h k e = bounded_some _ _ e
-    redex_some Σ ρ (op! o i j) h k e = bounded_some _ _ e
-    redex_some Σ ρ (fst! v w) h k e = bounded_some _ _ e
-    redex_some Σ ρ (snd! v w) h k e = bounded_some _ _ e
-    redex_some Σ ρ (ite! i M N) h k e = bounded_some _ _ e
     redex_some Σ ρ (get! r) h k e = let g = back (GlobalOk V Γ A Σ) μ.globals Γ r ρ h.1 k in reading_some (at μ.globals r) g.0 g.1 e
-    redex_some Σ ρ (put! r v) h k e = bounded_some _ _ e
     redex_some Σ ρ (assert! i) h k e = asserting_some (A.zero i) e
     redex_some Σ ρ (call! m v) h k e = let g = back (EntryOk V Γ A Σ) μ.names Σ m (function_type k.0 ρ) h.0 k.1 in calling_some (at μ.names m) m v g.0 g.1 e
-    redex_some Σ ρ (leave! v) h k e = bounded_some _ _ e
+    redex_some Σ ρ r h k e = bounded_some _ _ e
 
   parts_some : (K : List Pending) (M : Term) (μ : Memory) (P : List ℕ) (Σ : List Tree) (θ : Tree) (s : Parts) → MadeOf M s → MemoryOk V Γ A Σ μ → Typed V Γ A Σ [] M θ → Fine V Γ A Σ θ s → PendingOk V Γ A true Σ K → next_by G K s μ P ≡ no_step → ⊥
   parts_some K M μ P Σ θ (value v) is h k f w e = no_stuck_answer K Σ v μ P w e

@@ -131,11 +131,10 @@ module _ (G : Game) (list : WordList) (law : Listed G.meaning list) where
     calls_in (n ∷ ms) m x θ M v R (Memᴰ.tail i) e h = Memᴰ.append_right (calls_of G list (at μ.names n) n K l μ P) (calls_in ms m x θ M v R i e h)
 
     in_calls_of : (o : Option Entry) (m : ℕ) (a : Pass) (q : Position) → at μ.names m ≡ o → Memᴰ m P → l < G.bounds.insistence → Memᴰ (reply a q) (calls_of G list o m K l μ P) → G ⊢ host_turn K l μ P ─ some a ⟹ q
-    in_calls_of none m a q e j b i = absurd (Memᴰ.not-nil i)
-    in_calls_of (some (host_name θ θ')) m a q e j b i = absurd (Memᴰ.not-nil i)
     in_calls_of (some (library_name x θ M)) m a q e j b i =
         let w = in_with m a q (sayings G list θ μ.names) i in
         move_as G _ _ _ _ _ w.3 w.4 (rule.host_calls m x l θ M w.0 w.1 j b e (listed_says θ μ.names w.0 w.1 w.2))
+    in_calls_of o m a q e j b i = elim i [ ]
 
     in_calls : (ms : List ℕ) (a : Pass) (q : Position) → ((m : ℕ) → Memᴰ m ms → Memᴰ m P) → l < G.bounds.insistence → Memᴰ (reply a q) (calls G list ms K l μ P) → G ⊢ host_turn K l μ P ─ some a ⟹ q
     in_calls [] a q sub b i = absurd (Memᴰ.not-nil i)
@@ -168,19 +167,17 @@ module _ (G : Game) (list : WordList) (law : Listed G.meaning list) where
     in_answer a q (saying v R ∷ ss) (Memᴰ.tail i) = let x = in_answer a q ss i in (x.0, x.1, Memᴰ.tail x.2, x.3, x.4)
 
     in_answers_of : (l : ℕ) (o : Option Entry) (a : Pass) (q : Position) → at μ.names m ≡ o → Memᴰ (reply a q) (answers_of G list o m E K μ P) → G ⊢ host_turn (library_waits m E ∷ K) l μ P ─ some a ⟹ q
-    in_answers_of l none a q e i = absurd (Memᴰ.not-nil i)
     in_answers_of l (some (host_name θ θ')) a q e i =
         let w = in_answer a q (sayings G list θ' μ.names) i in
         move_as G _ _ _ _ _ w.3 w.4 (rule.host_answers m l E θ θ' w.0 w.1 e (listed_says θ' μ.names w.0 w.1 w.2))
-    in_answers_of l (some (library_name x θ M)) a q e i = absurd (Memᴰ.not-nil i)
+    in_answers_of l o a q e i = elim i [ ]
 
     answers_in : (θ θ' : Tree) (v : Value) (R : List Entry) → at μ.names m ≡ some (host_name θ θ') → Says G.meaning θ' μ.names v R → Memᴰ (reply (host_answer m v) (answered v R)) (answers G list (library_waits m E ∷ K) μ P)
     answers_in θ θ' v R e h = rw e (answer_in v R (sayings G list θ' μ.names) (says_listed θ' μ.names v R h))
 
   in_answers : (K : List Pending) (l : ℕ) (μ : Memory) (P : List ℕ) (a : Pass) (q : Position) → Memᴰ (reply a q) (answers G list K μ P) → G ⊢ host_turn K l μ P ─ some a ⟹ q
-  in_answers [] l μ P a q i = absurd (Memᴰ.not-nil i)
-  in_answers (host_waits m k ∷ K) l μ P a q i = absurd (Memᴰ.not-nil i)
   in_answers (library_waits m E ∷ K) l μ P a q i = in_answers_of m E K μ P l (at μ.names m) a q refl i
+  in_answers K l μ P a q i = elim i [ ]
 
   -- each reply of the list is a move that the host may make
   pub replies_are : (K : List Pending) (l : ℕ) (μ : Memory) (P : List ℕ) (a : Pass) (q : Position) → Memᴰ (reply a q) (replies G list K l μ P) → G ⊢ host_turn K l μ P ─ some a ⟹ q
@@ -200,11 +197,9 @@ module _ (G : Game) (list : WordList) (law : Listed G.meaning list) where
 
   -- each move that the host may make is in the list
   pub move_listed : (p q : Position) (b : Option Pass) (a : Pass) → G ⊢ p ─ b ⟹ q → b ≡ some a → FromHost p a q
-  move_listed p q b a (rule.internal h d) e = tt
-  move_listed p q b a (rule.library_calls E m v θ θ' h) e = tt
-  move_listed p q b a (rule.library_answers m l v) e = tt
   move_listed p q b a (rule.host_calls m x l θ M v R {K} {μ} {P} i lt h s) e =
       let listed : Memᴰ (reply (host_call m v) q) (replies G list K l μ P) = rw (lt-ltb l G.bounds.insistence lt) (Memᴰ.append_left _ (calls_in K l μ P P m x θ M v R i h s)) in
       Memᴰ.cast (cc) listed
   move_listed p q b a (rule.host_answers m l E θ θ' v R {K} {μ} {P} h s) e =
       Memᴰ.cast (cc) (Memᴰ.append_right (where_true (ltb l G.bounds.insistence) (calls G list P (library_waits m E ∷ K) l μ P)) (answers_in m E K μ P θ θ' v R h s))
+  move_listed p q b a h e = tt

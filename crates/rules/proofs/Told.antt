@@ -82,10 +82,9 @@ module _ (A : Meaning) (closed : Closed A) where
 
   -- the words of a value may be said
   abbrev Sayable : Value → Type 0
-  Sayable unit = Unit {0}
   Sayable (word w) = A.may_say w ≡ true
-  Sayable (name m) = Unit {0}
   Sayable (pair v w) = Sayable v × Sayable w
+  Sayable v = Unit {0}
 
   sayable : (θ : Tree) (R : List Entry) (v : Value) (R' : List Entry) → Says A θ R v R' → Sayable v
   sayable θ R v R' rule.says_unit = tt
@@ -151,9 +150,6 @@ module _ (G : Game) (closed : Closed G.meaning) where
     answer_told a b q r x y few fq fr c d e =
         let lines : line_of (pass_fields (host_answer c.0 c.4)) ++ x ≡ line_of (pass_fields (host_answer d.0 d.4)) ++ y = cc in
         let told = line_tells (codes "H") (codes "H") (codes "ret" ∷ name_field c.0 ∷ leaf_fields c.4) (codes "ret" ∷ name_field d.0 ∷ leaf_fields d.4) x y (answer_fields_free a q few fq c) (answer_fields_free b r few fr d) lines in
-        let names : decimal c.0 ≡ decimal d.0 = cc in
-        let lc = inside _ μ.names c.0 c.7 in
-        let ld = inside _ μ.names d.0 d.7 in
         let θ : c.3 ≡ d.3 = cc in
         let says : Says G.meaning c.3 μ.names d.4 d.5 = rw (← θ) at d.8 in
         let v = leaves_tell G.meaning closed c.3 μ.names c.4 d.4 c.5 d.5 [] [] (said _ _ _ _ _ c.8) (said _ _ _ _ _ says) (sayable G.meaning closed _ _ _ _ c.8) (sayable G.meaning closed _ _ _ _ d.8) (cc) in

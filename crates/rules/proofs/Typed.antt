@@ -46,11 +46,8 @@ module _ (V : ℕ → Tree) (Γ : List Tree) (A : Meaning) where
   within_more y Δ Δ' s x (Memᴰ.tail i) = Memᴰ.tail (s x i)
 
   pub weaken : (Σ Σ' : List Tree) (Δ Δ' : List ℕ) → Grows Σ Σ' → Within Δ Δ' → (M : Term) (θ : Tree) → Typed Σ Δ M θ → Typed Σ' Δ' M θ
-  weaken Σ Σ' Δ Δ' g s ⟨⟩ θ h = h
-  weaken Σ Σ' Δ Δ' g s (num i) θ h = h
   weaken Σ Σ' Δ Δ' g s (var x) θ h = (h.0, s x h.1)
   weaken Σ Σ' Δ Δ' g s (meth m) θ h = g m θ h
-  weaken Σ Σ' Δ Δ' g s (get r) θ h = h
   weaken Σ Σ' Δ Δ' g s (lam x ρ M) θ h = (h.0, h.1, h.2, weaken Σ Σ' (x ∷ Δ) (x ∷ Δ') g (within_more x Δ Δ' s) M h.1 h.3)
   weaken Σ Σ' Δ Δ' g s (put r M) θ h = (h.0, h.1, h.2, weaken Σ Σ' Δ Δ' g s M h.1 h.3)
   weaken Σ Σ' Δ Δ' g s (op o M N) θ h = (h.0, weaken Σ Σ' Δ Δ' g s M int_type h.1, weaken Σ Σ' Δ Δ' g s N int_type h.2)
@@ -62,6 +59,7 @@ module _ (V : ℕ → Tree) (Γ : List Tree) (A : Meaning) where
   weaken Σ Σ' Δ Δ' g s (let_in x M N) θ h = (weaken Σ Σ' Δ Δ' g s M (V x) h.0, weaken Σ Σ' (x ∷ Δ) (x ∷ Δ') g (within_more x Δ Δ' s) N θ h.1)
   weaken Σ Σ' Δ Δ' g s (assert M) θ h = (h.0, weaken Σ Σ' Δ Δ' g s M int_type h.1)
   weaken Σ Σ' Δ Δ' g s ⟪ M ⟫ θ h = weaken Σ Σ' Δ Δ' g s M θ h
+  weaken Σ Σ' Δ Δ' g s M θ h = h
 
   pub closed_anywhere : (Σ : List Tree) (Δ : List ℕ) (M : Term) (θ : Tree) → Typed Σ [] M θ → Typed Σ Δ M θ
   closed_anywhere Σ Δ M θ h = weaken Σ Σ [] Δ (λ m ρ e. e) (λ x i. absurd (Memᴰ.not-nil i)) M θ h
@@ -102,11 +100,7 @@ module _ (V : ℕ → Tree) (Γ : List Tree) (A : Meaning) where
     below Δ Δ' s z false e M N θ h k = k
 
     pub replaced : (Δ Δ' : List ℕ) → Leaves x Δ Δ' → (M : Term) (θ : Tree) → Typed Σ Δ M θ → Typed Σ Δ' (M ⟨ v / x ⟩) θ
-    replaced Δ Δ' s ⟨⟩ θ h = h
-    replaced Δ Δ' s (num i) θ h = h
     replaced Δ Δ' s (var y) θ h = at_var Δ Δ' s y θ (eqb y x) refl h.0 h.1
-    replaced Δ Δ' s (meth m) θ h = h
-    replaced Δ Δ' s (get r) θ h = h
     replaced Δ Δ' s (lam z ρ M) θ h =
         (h.0, h.1, h.2, below Δ Δ' s z (eqb z x) refl M (M ⟨ v / x ⟩) h.1 h.3 (replaced (z ∷ Δ) (z ∷ Δ') (leaves_more x z Δ Δ' s) M h.1 h.3))
     replaced Δ Δ' s (put r M) θ h = (h.0, h.1, h.2, replaced Δ Δ' s M h.1 h.3)
@@ -120,6 +114,7 @@ module _ (V : ℕ → Tree) (Γ : List Tree) (A : Meaning) where
         (replaced Δ Δ' s M (V z) h.0, below Δ Δ' s z (eqb z x) refl N (N ⟨ v / x ⟩) θ h.1 (replaced (z ∷ Δ) (z ∷ Δ') (leaves_more x z Δ Δ' s) N θ h.1))
     replaced Δ Δ' s (assert M) θ h = (h.0, replaced Δ Δ' s M int_type h.1)
     replaced Δ Δ' s ⟪ M ⟫ θ h = replaced Δ Δ' s M θ h
+    replaced Δ Δ' s M θ h = h
 
     -- the body of a function with its one variable replaced is closed
     pub body_replaced : (M : Term) (θ : Tree) → Typed Σ (x ∷ []) M θ → Typed Σ [] (M ⟨ v / x ⟩) θ
@@ -184,28 +179,21 @@ module _ (V : ℕ → Tree) (Γ : List Tree) (A : Meaning) where
     name_no_pair m ρ σ h = let x = fs m (pair_type ρ σ) h in cc
 
     on_word_fine : (θ : Tree) (k : ℤ → Parts) (v : Value) → Typed Σ [] ⌊ v ⌋ int_type → ((i : ℤ) → Fine Σ θ (k i)) → Fine Σ θ (on_word k v)
-    on_word_fine θ k unit h g = cc
     on_word_fine θ k (word i) h g = g i
     on_word_fine θ k (name m) h g = absurd (name_no_int m h)
-    on_word_fine θ k (pair v w) h g = cc
+    on_word_fine θ k v h g = cc
 
     on_name_fine : (ρ σ θ : Tree) (k : ℕ → Parts) (v : Value) → Typed Σ [] ⌊ v ⌋ (function_type ρ σ) → ((m : ℕ) → Fine Σ θ (k m)) → Fine Σ θ (on_name k v)
-    on_name_fine ρ σ θ k unit h g = cc
-    on_name_fine ρ σ θ k (word i) h g = cc
     on_name_fine ρ σ θ k (name m) h g = g m
-    on_name_fine ρ σ θ k (pair v w) h g = cc
+    on_name_fine ρ σ θ k v h g = cc
 
     on_pair_fine : (ρ σ θ : Tree) (k : Value → Value → Parts) (v : Value) → Typed Σ [] ⌊ v ⌋ (pair_type ρ σ) → ((a b : Value) → Fine Σ θ (k a b)) → Fine Σ θ (on_pair k v)
-    on_pair_fine ρ σ θ k unit h g = cc
-    on_pair_fine ρ σ θ k (word i) h g = cc
     on_pair_fine ρ σ θ k (name m) h g = absurd (name_no_pair m ρ σ h)
     on_pair_fine ρ σ θ k (pair v w) h g = g v w
+    on_pair_fine ρ σ θ k v h g = cc
 
     pub fine : (M : Term) (θ : Tree) → Typed Σ [] M θ → Fine Σ θ (parts M)
-    fine ⟨⟩ θ h = h
-    fine (num i) θ h = h
     fine (var x) θ h = absurd (Memᴰ.not-nil h.1)
-    fine (meth m) θ h = h
     fine (get r) θ h = tt
     fine (lam x ρ M) θ h = tt
     fine (put r M) θ h = under_fine Σ h.1 θ (put• r) (parts M) _ (fine M h.1 h.3) (λ v k. tt)
@@ -224,3 +212,4 @@ module _ (V : ℕ → Tree) (Γ : List Tree) (A : Meaning) where
     fine (let_in x M N) θ h = under_fine Σ (V x) θ (let• x N) (parts M) _ (fine M (V x) h.0) (λ v k. tt)
     fine (assert M) θ h = under_fine Σ int_type θ assert• (parts M) _ (fine M int_type h.1) (λ v k. on_word_fine θ _ v k (λ i. tt))
     fine ⟪ M ⟫ θ h = under_fine Σ θ θ box• (parts M) _ (fine M θ h) (λ v k. tt)
+    fine M θ h = h

@@ -25,17 +25,13 @@ use Rattle.rules.proofs.Ranges.{before_at, in_range, range_in, full_plays_are_co
 
 -- whether an ending is a cut by depth
 abbrev by_depth : Ending → Bool
-by_depth failed = false
 by_depth cut_by_depth = true
-by_depth cut_by_steps = false
-by_depth turn = false
+by_depth ending = false
 
 -- whether an ending is a cut by steps
 abbrev by_steps : Ending → Bool
-by_steps failed = false
-by_steps cut_by_depth = false
 by_steps cut_by_steps = true
-by_steps turn = false
+by_steps ending = false
 
 -- how a play of a list ends
 abbrev ending_of : Played → Ending
@@ -169,17 +165,13 @@ some_append so (x ∷ xs) trace e steps h = ap (λ (b : Bool). so (ending_of x) 
 
 -- only one ending is a cut by depth
 is_depth : (e : Ending) → by_depth e ≡ true → e ≡ cut_by_depth
-is_depth failed h = cc
 is_depth cut_by_depth h = refl
-is_depth cut_by_steps h = cc
-is_depth turn h = cc
+is_depth ending h = cc
 
 -- only one ending is a cut by steps
 is_steps : (e : Ending) → by_steps e ≡ true → e ≡ cut_by_steps
-is_steps failed h = cc
-is_steps cut_by_depth h = cc
 is_steps cut_by_steps h = refl
-is_steps turn h = cc
+is_steps ending h = cc
 
 module _ (G : Game) (list : WordList) (law : Listed G.meaning list) (plays : List Played) (all : AllPlays G list plays) where
   -- a listed play, by its moves
