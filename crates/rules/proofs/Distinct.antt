@@ -28,7 +28,7 @@ abbrev pub Distinct : List ℕ → Type 0
 Distinct P = (m n : ℕ) → StandsBefore m n P → m ≡ n → ⊥
 
 low : (m : ℕ) (rows : List Row) (n : ℕ) → Memᴰ n (public_from m rows) → m ≤ n
-low m [] n i = absurd (Memᴰ.not-nil i)
+low m [] n i = elim i [ ]
 low m (MethodRow k (Abstract t) ∷ rows) n i = let h = low (suc m) rows n i in omega arith
 low m (MethodRow k (Public t e) ∷ rows) n (Memᴰ.head d) = omega arith
 low m (MethodRow k (Public t e) ∷ rows) n (Memᴰ.tail i) = let h = low (suc m) rows n i in omega arith
@@ -45,13 +45,13 @@ public_distinct m (row ∷ rows) a b s e = public_distinct m rows a b s e
 
 -- a number in a list stands there
 absent : (m : ℕ) (P : List ℕ) → stands m P ≡ false → Memᴰ m P → ⊥
-absent m [] e i = Memᴰ.not-nil i
+absent m [] e i = elim i [ ]
 absent m (n ∷ P) e (Memᴰ.head d) = let y = eq-eqb m n d in cc
 absent m (n ∷ P) e (Memᴰ.tail i) = absent m P (or_parts (eqb m n) (stands m P) e).1 i
 
 -- one number more behind a list that lacks it
 behind : (P : List ℕ) (k m n : ℕ) → StandsBefore m n (P ++ (k ∷ [])) → StandsBefore m n P ⊎ (Memᴰ m P × (n ≡ k))
-behind [] k m n (order.here d i) = absurd (Memᴰ.not-nil i)
+behind [] k m n (order.here d i) = elim i [ ]
 behind [] k m n (order.later s) = elim s [ ]
 behind (j ∷ P) k m n (order.here d i) = go (Memᴰ.append_cases P i)
   where

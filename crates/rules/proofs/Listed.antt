@@ -15,7 +15,7 @@ use Rattle.rules.proofs.Nexts.{step_next, fails_next, deep_next, IsSo, next_so}
 
 -- a play after a reply of the list
 among : (plays : Position → List Played) (rs : List Reply) (a : Pass) (q : Position) (trace : List Pass) (e : Ending) (s : ℕ) → Memᴰ (reply a q) rs → Memᴰ (played trace e s) (plays q) → Memᴰ (played (a ∷ trace) e s) (after_each plays rs)
-among plays [] a q trace e s i j = absurd (Memᴰ.not-nil i)
+among plays [] a q trace e s i j = elim i [ ]
 among plays (reply b r ∷ rs) a q trace e s (Memᴰ.head d) j =
     let x : a ≡ b = cc in
     let y : q ≡ r = cc in
@@ -24,7 +24,7 @@ among plays (reply b r ∷ rs) a q trace e s (Memᴰ.tail i) j = Memᴰ.append_r
 
 -- a play of `after_each` is a reply and a play after it
 apart : (plays : Position → List Played) (rs : List Reply) (trace : List Pass) (e : Ending) (s : ℕ) → Memᴰ (played trace e s) (after_each plays rs) → (a : Pass) × (q : Position) × (rest : List Pass) × Memᴰ (reply a q) rs × (trace ≡ a ∷ rest) × Memᴰ (played rest e s) (plays q)
-apart plays [] trace e s i = absurd (Memᴰ.not-nil i)
+apart plays [] trace e s i = elim i [ ]
 apart plays (reply a q ∷ rs) trace e s i = go (Memᴰ.append_cases (map (after a) (plays q)) i) (λ j. apart plays rs trace e s j)
   where
     Found : Type 0
@@ -44,7 +44,7 @@ apart plays (reply a q ∷ rs) trace e s i = go (Memᴰ.append_cases (map (after
 
 -- where there is a reply, the plays are those after the replies
 with_reply : (plays : Position → List Played) (t : ℕ) (rs : List Reply) (a : Pass) (q : Position) (x : Played) → Memᴰ (reply a q) rs → Memᴰ x (after_each plays rs) → Memᴰ x (at_turn plays t rs)
-with_reply plays t [] a q x i j = absurd (Memᴰ.not-nil i)
+with_reply plays t [] a q x i j = elim i [ ]
 with_reply plays t (r ∷ rs) a q x i j = j
 
 no_reply : (plays : Position → List Played) (t : ℕ) (rs : List Reply) → ((a : Pass) (q : Position) → Memᴰ (reply a q) rs → ⊥) → Memᴰ (played [] turn t) (at_turn plays t rs)
@@ -123,14 +123,14 @@ module _ (G : Game) where
             rw (x, y, z) (pass_first p q t a tail e' s' lt h (rest q tail e' s' j))
     by_next left t p fails lt h rest trace e s i = lone p t failed (suc t) (here p t failed (suc t) (play.fails lt h) (λ d. cc)) trace e s i
     by_next left t p deep lt h rest trace e s i = lone p t cut_by_depth t (here p t cut_by_depth t (play.too_deep lt h) (λ d. cc)) trace e s i
-    by_next left t p no_step lt h rest trace e s i = absurd (Memᴰ.not-nil i)
+    by_next left t p no_step lt h rest trace e s i = elim i [ ]
 
     by_replies : (left t : ℕ) (K : List Pending) (l : ℕ) (μ : Memory) (P : List ℕ) (rs : List Reply) → replies G list K l μ P ≡ rs → t < G.bounds.steps → Rest left (suc t) → (trace : List Pass) (e : Ending) (s : ℕ) → Memᴰ (played trace e s) (at_turn (plays_from G list left (suc t)) t rs) → FullFrom G (host_turn K l μ P) t trace e s
     by_replies left t K l μ P [] d lt rest trace e s i =
         lone (host_turn K l μ P) t turn t (here (host_turn K l μ P) t turn t (play.hands_over lt) (λ x a q h. nothing a q (rw d at (move_listed G list law (host_turn K l μ P) q (some a) a h refl)))) trace e s i
       where
         nothing : (a : Pass) (q : Position) → Memᴰ (reply a q) [] → ⊥
-        nothing a q j = Memᴰ.not-nil j
+        nothing a q j = elim j [ ]
     by_replies left t K l μ P (r ∷ rs) d lt rest trace e s i =
         let x = apart (plays_from G list left (suc t)) (r ∷ rs) trace e s i in
         let listed : Memᴰ (reply x.0 x.1) (replies G list K l μ P) = rw d x.3 in

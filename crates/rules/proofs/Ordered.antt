@@ -127,10 +127,10 @@ module _ (list : WordList) where
 
   module _ (G : Game) where
     sayings_ascend : (θ : Tree) (R : List Entry) → Ascending SaidBefore (sayings G list θ R)
-    sayings_ascend unit_type R = ((λ y i. absurd (Memᴰ.not-nil i)), tt)
+    sayings_ascend unit_type R = ((λ y i. elim i [ ]), tt)
     sayings_ascend int_type R = each_ascend R _ (words_ascend list.length list.word (λ p. p) (λ p. refl) (λ p q a b. a) (λ p a. a))
     sayings_ascend (pair_type θ θ') R = both_ascend (sayings G list θ') (sayings G list θ R) (sayings_ascend θ') (sayings_ascend θ R)
-    sayings_ascend (function_type θ θ') R = ((λ y i. absurd (Memᴰ.not-nil i)), tt)
+    sayings_ascend (function_type θ θ') R = ((λ y i. elim i [ ]), tt)
 
     module _ (P : List ℕ) where
       abbrev ReplyBefore : Reply → Reply → Type 0
@@ -156,7 +156,7 @@ module _ (list : WordList) where
         calls_one o m b r i = elim i [ ]
 
         calls_some : (ms : List ℕ) (b : Pass) (r : Position) → Memᴰ (reply b r) (calls G list ms K l μ P) → (n : ℕ) × (v : Value) × Memᴰ n ms × (b ≡ host_call n v)
-        calls_some [] b r i = absurd (Memᴰ.not-nil i)
+        calls_some [] b r i = elim i [ ]
         calls_some (m ∷ ms) b r i = go (Memᴰ.append_cases (calls_of G list (at μ.names m) m K l μ P) i) (λ j. calls_some ms b r j)
           where
             go : Memᴰ (reply b r) (calls_of G list (at μ.names m) m K l μ P) ⊎ Memᴰ (reply b r) (calls G list ms K l μ P) → (Memᴰ (reply b r) (calls G list ms K l μ P) → (n : ℕ) × (v : Value) × Memᴰ n ms × (b ≡ host_call n v)) → (n : ℕ) × (v : Value) × Memᴰ n (m ∷ ms) × (b ≡ host_call n v)
@@ -180,7 +180,7 @@ module _ (list : WordList) where
 
         allowed_call : (c : Bool) (b : Pass) (r : Position) → Memᴰ (reply b r) (where_true c (calls G list P K l μ P)) → (n : ℕ) × (v : Value) × (b ≡ host_call n v)
         allowed_call true b r i = let w = calls_some P b r i in (w.0, w.1, w.3)
-        allowed_call false b r i = absurd (Memᴰ.not-nil i)
+        allowed_call false b r i = elim i [ ]
 
       module _ (law : Listed G.meaning list) (μ : Memory) where
         answers_with_ascend : (m : ℕ) (E : Context) (K : List Pending) (ss : List Saying) → Ascending SaidBefore ss → Ascending ReplyBefore (answers_with m E ss K μ P)
@@ -267,8 +267,8 @@ module _ (list : WordList) where
       next_ascends : (left t : ℕ) (p : Position) (n : Next) → t < G.bounds.steps → IsSo G p n → RestAscends left (suc t) → Ascending (PlaysBefore p t) (after_next (plays_from G list left (suc t)) t n)
       next_ascends left t p (goes_on q) lt h rest = ascending_weaker (PlaysBefore q (suc t)) (PlaysBefore p t) _ (λ x y b. inside_before p q t lt h _ _ b) (rest q)
       next_ascends left t p (hands a q) lt h rest = ascending_map (PlaysBefore q (suc t)) (PlaysBefore p t) (after a) _ (λ x y b. pass_before p q t a lt h x y b) (rest q)
-      next_ascends left t p fails lt h rest = ((λ y i. absurd (Memᴰ.not-nil i)), tt)
-      next_ascends left t p deep lt h rest = ((λ y i. absurd (Memᴰ.not-nil i)), tt)
+      next_ascends left t p fails lt h rest = ((λ y i. elim i [ ]), tt)
+      next_ascends left t p deep lt h rest = ((λ y i. elim i [ ]), tt)
       next_ascends left t p no_step lt h rest = tt
 
       -- the move of a reply at the host's turn
@@ -280,7 +280,7 @@ module _ (list : WordList) where
 
       -- a play after a reply of a list
       after_some : (plays : Position → List Played) (rs : List Reply) (y : Played) → Memᴰ y (after_each plays rs) → (a : Pass) × (q : Position) × (x : Played) × Memᴰ (reply a q) rs × (y ≡ after a x)
-      after_some plays [] y i = absurd (Memᴰ.not-nil i)
+      after_some plays [] y i = elim i [ ]
       after_some plays (reply a q ∷ rs) y i = go (Memᴰ.append_cases (map (after a) (plays q)) i) (λ j. after_some plays rs y j)
         where
           go : Memᴰ y (map (after a) (plays q)) ⊎ Memᴰ y (after_each plays rs) → (Memᴰ y (after_each plays rs) → (b : Pass) × (r : Position) × (x : Played) × Memᴰ (reply b r) rs × (y ≡ after b x)) → (b : Pass) × (r : Position) × (x : Played) × Memᴰ (reply b r) (reply a q ∷ rs) × (y ≡ after b x)
@@ -320,11 +320,11 @@ module _ (list : WordList) where
               }
 
       turn_ascends : (left t : ℕ) (K : List Pending) (l : ℕ) (μ : Memory) (P : List ℕ) → t < G.bounds.steps → RestAscends left (suc t) → (rs : List Reply) → Ascending (ReplyBefore P) rs → ((a : Pass) (q : Position) → Memᴰ (reply a q) rs → Memᴰ (reply a q) (replies G list K l μ P)) → Ascending (PlaysBefore (host_turn K l μ P) t) (at_turn (plays_from G list left (suc t)) t rs)
-      turn_ascends left t K l μ P lt rest [] up sub = ((λ y i. absurd (Memᴰ.not-nil i)), tt)
+      turn_ascends left t K l μ P lt rest [] up sub = ((λ y i. elim i [ ]), tt)
       turn_ascends left t K l μ P lt rest (r ∷ rs) up sub = each_ascends left t K l μ P lt rest (r ∷ rs) up sub
 
       plays_ascend : (left t : ℕ) → left + t ≡ G.bounds.steps → RestAscends left t
-      plays_ascend zero t sum p = ((λ y i. absurd (Memᴰ.not-nil i)), tt)
+      plays_ascend zero t sum p = ((λ y i. elim i [ ]), tt)
       plays_ascend (suc left) t sum (library_runs K M μ P) = next_ascends left t (library_runs K M μ P) (library_next G K M μ P) (omega arith) (next_so G K M μ P) (plays_ascend left (suc t) (omega arith))
       plays_ascend (suc left) t sum (host_turn K l μ P) = turn_ascends left t K l μ P (omega arith) (plays_ascend left (suc t) (omega arith)) (replies G list K l μ P) (replies_ascend law K l μ P) (λ a q i. i)
 

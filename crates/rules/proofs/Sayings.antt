@@ -18,22 +18,22 @@ word_listed (suc n) f zero h = Memᴰ.head refl
 word_listed (suc n) f (suc p) h = Memᴰ.tail (word_listed n (λ q. f (suc q)) p (omega arith))
 
 pub listed_word : (n : ℕ) (f : ℕ → ℤ) (w : ℤ) → Memᴰ w (in_order n f) → (p : ℕ) × (p < n) × (f p ≡ w)
-listed_word zero f w i = absurd (Memᴰ.not-nil i)
+listed_word zero f w i = elim i [ ]
 listed_word (suc n) f w (Memᴰ.head e) = (zero, omega arith, sym e)
 listed_word (suc n) f w (Memᴰ.tail i) = let x = listed_word n (λ q. f (suc q)) w i in (suc x.0, omega (arith, x.1), x.2)
 
 each_in : (R : List Entry) (w : ℤ) (ws : List ℤ) → Memᴰ w ws → Memᴰ (saying (word w) R) (each_word R ws)
-each_in R w [] i = absurd (Memᴰ.not-nil i)
+each_in R w [] i = elim i [ ]
 each_in R w (v ∷ ws) (Memᴰ.head e) = Memᴰ.head (cc)
 each_in R w (v ∷ ws) (Memᴰ.tail i) = Memᴰ.tail (each_in R w ws i)
 
 pub in_each : (R R' : List Entry) (v : Value) (ws : List ℤ) → Memᴰ (saying v R') (each_word R ws) → (w : ℤ) × Memᴰ w ws × (v ≡ word w) × (R' ≡ R)
-in_each R R' v [] i = absurd (Memᴰ.not-nil i)
+in_each R R' v [] i = elim i [ ]
 in_each R R' v (w ∷ ws) (Memᴰ.head e) = (w, Memᴰ.head refl, (cc), (cc))
 in_each R R' v (w ∷ ws) (Memᴰ.tail i) = let x = in_each R R' v ws i in (x.0, Memᴰ.tail x.1, x.2, x.3)
 
 left_in : (v w : Value) (R : List Entry) (ss : List Saying) → Memᴰ (saying w R) ss → Memᴰ (saying (pair v w) R) (with_left v ss)
-left_in v w R [] i = absurd (Memᴰ.not-nil i)
+left_in v w R [] i = elim i [ ]
 left_in v w R (saying w' R' ∷ ss) (Memᴰ.head e) =
     let a : w ≡ w' = cc in
     let b : R ≡ R' = cc in
@@ -41,14 +41,14 @@ left_in v w R (saying w' R' ∷ ss) (Memᴰ.head e) =
 left_in v w R (saying w' R' ∷ ss) (Memᴰ.tail i) = Memᴰ.tail (left_in v w R ss i)
 
 pub in_left : (v u : Value) (R : List Entry) (ss : List Saying) → Memᴰ (saying u R) (with_left v ss) → (w : Value) × Memᴰ (saying w R) ss × (u ≡ pair v w)
-in_left v u R [] i = absurd (Memᴰ.not-nil i)
+in_left v u R [] i = elim i [ ]
 in_left v u R (saying w R' ∷ ss) (Memᴰ.head e) =
     let b : R ≡ R' = cc in
     (w, Memᴰ.head (rw b), (cc))
 in_left v u R (saying w R' ∷ ss) (Memᴰ.tail i) = let x = in_left v u R ss i in (x.0, Memᴰ.tail x.1, x.2)
 
 both_in : (right : List Entry → List Saying) (v w : Value) (R R' : List Entry) (ss : List Saying) → Memᴰ (saying v R) ss → Memᴰ (saying w R') (right R) → Memᴰ (saying (pair v w) R') (both_parts right ss)
-both_in right v w R R' [] i j = absurd (Memᴰ.not-nil i)
+both_in right v w R R' [] i j = elim i [ ]
 both_in right v w R R' (saying v' R₁ ∷ ss) (Memᴰ.head e) j =
     let a : v ≡ v' = cc in
     let b : R ≡ R₁ = cc in
@@ -56,7 +56,7 @@ both_in right v w R R' (saying v' R₁ ∷ ss) (Memᴰ.head e) j =
 both_in right v w R R' (saying v' R₁ ∷ ss) (Memᴰ.tail i) j = Memᴰ.append_right (with_left v' (right R₁)) (both_in right v w R R' ss i j)
 
 pub in_both : (right : List Entry → List Saying) (u : Value) (R' : List Entry) (ss : List Saying) → Memᴰ (saying u R') (both_parts right ss) → (v : Value) × (w : Value) × (R : List Entry) × Memᴰ (saying v R) ss × Memᴰ (saying w R') (right R) × (u ≡ pair v w)
-in_both right u R' [] i = absurd (Memᴰ.not-nil i)
+in_both right u R' [] i = elim i [ ]
 in_both right u R' (saying v R ∷ ss) i = go (Memᴰ.append_cases (with_left v (right R)) i) (λ j. in_both right u R' ss j)
   where
     Found : Type 0
@@ -111,7 +111,7 @@ module _ (G : Game) (list : WordList) (law : Listed G.meaning list) where
     called m v R = library_runs (host_waits m (suc l) ∷ K) (app (meth m) ⌊ v ⌋) (with_names R μ) P
 
     with_in : (m : ℕ) (v : Value) (R : List Entry) (ss : List Saying) → Memᴰ (saying v R) ss → Memᴰ (reply (host_call m v) (called m v R)) (calls_with m ss K l μ P)
-    with_in m v R [] i = absurd (Memᴰ.not-nil i)
+    with_in m v R [] i = elim i [ ]
     with_in m v R (saying v' R' ∷ ss) (Memᴰ.head e) =
         let a : v ≡ v' = cc in
         let b : R ≡ R' = cc in
@@ -119,12 +119,12 @@ module _ (G : Game) (list : WordList) (law : Listed G.meaning list) where
     with_in m v R (saying v' R' ∷ ss) (Memᴰ.tail i) = Memᴰ.tail (with_in m v R ss i)
 
     pub in_with : (m : ℕ) (a : Pass) (q : Position) (ss : List Saying) → Memᴰ (reply a q) (calls_with m ss K l μ P) → (v : Value) × (R : List Entry) × Memᴰ (saying v R) ss × (a ≡ host_call m v) × (q ≡ called m v R)
-    in_with m a q [] i = absurd (Memᴰ.not-nil i)
+    in_with m a q [] i = elim i [ ]
     in_with m a q (saying v R ∷ ss) (Memᴰ.head e) = (v, R, Memᴰ.head refl, (cc), (cc))
     in_with m a q (saying v R ∷ ss) (Memᴰ.tail i) = let x = in_with m a q ss i in (x.0, x.1, Memᴰ.tail x.2, x.3, x.4)
 
     calls_in : (ms : List ℕ) (m x : ℕ) (θ : Tree) (M : Term) (v : Value) (R : List Entry) → Memᴰ m ms → at μ.names m ≡ some (library_name x θ M) → Says G.meaning θ μ.names v R → Memᴰ (reply (host_call m v) (called m v R)) (calls G list ms K l μ P)
-    calls_in [] m x θ M v R i e h = absurd (Memᴰ.not-nil i)
+    calls_in [] m x θ M v R i e h = elim i [ ]
     calls_in (n ∷ ms) m x θ M v R (Memᴰ.head d) e h =
         let here : Memᴰ (reply (host_call m v) (called m v R)) (calls_of G list (at μ.names m) m K l μ P) = rw e (with_in m v R (sayings G list θ μ.names) (says_listed θ μ.names v R h)) in
         Memᴰ.append_left (calls G list ms K l μ P) (rw (← d) here)
@@ -137,7 +137,7 @@ module _ (G : Game) (list : WordList) (law : Listed G.meaning list) where
     in_calls_of o m a q e j b i = elim i [ ]
 
     in_calls : (ms : List ℕ) (a : Pass) (q : Position) → ((m : ℕ) → Memᴰ m ms → Memᴰ m P) → l < G.bounds.insistence → Memᴰ (reply a q) (calls G list ms K l μ P) → G ⊢ host_turn K l μ P ─ some a ⟹ q
-    in_calls [] a q sub b i = absurd (Memᴰ.not-nil i)
+    in_calls [] a q sub b i = elim i [ ]
     in_calls (m ∷ ms) a q sub b i =
         go (Memᴰ.append_cases (calls_of G list (at μ.names m) m K l μ P) i) (λ j. in_calls ms a q (λ n k. sub n (Memᴰ.tail k)) b j)
       where
@@ -147,14 +147,14 @@ module _ (G : Game) (list : WordList) (law : Listed G.meaning list) where
 
     in_allowed : (b : Bool) → ltb l G.bounds.insistence ≡ b → (a : Pass) (q : Position) → Memᴰ (reply a q) (where_true b (calls G list P K l μ P)) → G ⊢ host_turn K l μ P ─ some a ⟹ q
     in_allowed true e a q i = in_calls P a q (λ m j. j) (ltb-true _ _ e) i
-    in_allowed false e a q i = absurd (Memᴰ.not-nil i)
+    in_allowed false e a q i = elim i [ ]
 
   module _ (m : ℕ) (E : Context) (K : List Pending) (μ : Memory) (P : List ℕ) where
     abbrev pub answered : Value → List Entry → Position
     answered v R = library_runs K (plug E ⌊ v ⌋) (with_names R μ) P
 
     answer_in : (v : Value) (R : List Entry) (ss : List Saying) → Memᴰ (saying v R) ss → Memᴰ (reply (host_answer m v) (answered v R)) (answers_with m E ss K μ P)
-    answer_in v R [] i = absurd (Memᴰ.not-nil i)
+    answer_in v R [] i = elim i [ ]
     answer_in v R (saying v' R' ∷ ss) (Memᴰ.head e) =
         let a : v ≡ v' = cc in
         let b : R ≡ R' = cc in
@@ -162,7 +162,7 @@ module _ (G : Game) (list : WordList) (law : Listed G.meaning list) where
     answer_in v R (saying v' R' ∷ ss) (Memᴰ.tail i) = Memᴰ.tail (answer_in v R ss i)
 
     pub in_answer : (a : Pass) (q : Position) (ss : List Saying) → Memᴰ (reply a q) (answers_with m E ss K μ P) → (v : Value) × (R : List Entry) × Memᴰ (saying v R) ss × (a ≡ host_answer m v) × (q ≡ answered v R)
-    in_answer a q [] i = absurd (Memᴰ.not-nil i)
+    in_answer a q [] i = elim i [ ]
     in_answer a q (saying v R ∷ ss) (Memᴰ.head e) = (v, R, Memᴰ.head refl, (cc), (cc))
     in_answer a q (saying v R ∷ ss) (Memᴰ.tail i) = let x = in_answer a q ss i in (x.0, x.1, Memᴰ.tail x.2, x.3, x.4)
 

@@ -62,7 +62,7 @@ module _ (V : ℕ → Tree) (Γ : List Tree) (A : Meaning) where
   weaken Σ Σ' Δ Δ' g s M θ h = h
 
   pub closed_anywhere : (Σ : List Tree) (Δ : List ℕ) (M : Term) (θ : Tree) → Typed Σ [] M θ → Typed Σ Δ M θ
-  closed_anywhere Σ Δ M θ h = weaken Σ Σ [] Δ (λ m ρ e. e) (λ x i. absurd (Memᴰ.not-nil i)) M θ h
+  closed_anywhere Σ Δ M θ h = weaken Σ Σ [] Δ (λ m ρ e. e) (λ x i. elim i [ ]) M θ h
 
   -- each variable in scope is x, or is in scope after x is replaced
   abbrev Leaves : ℕ → List ℕ → List ℕ → Type 0
@@ -122,7 +122,7 @@ module _ (V : ℕ → Tree) (Γ : List Tree) (A : Meaning) where
       where
         only : (y : ℕ) → Memᴰ y (x ∷ []) → (y ≡ x) ⊎ Memᴰ y []
         only y (Memᴰ.head e) = inl e
-        only y (Memᴰ.tail i) = absurd (Memᴰ.not-nil i)
+        only y (Memᴰ.tail i) = elim i [ ]
 
   -- what a context takes to what: by the names Σ and any more
   abbrev pub Takes : List Tree → Context → Tree → Tree → Type 0
@@ -193,7 +193,7 @@ module _ (V : ℕ → Tree) (Γ : List Tree) (A : Meaning) where
     on_pair_fine ρ σ θ k v h g = cc
 
     pub fine : (M : Term) (θ : Tree) → Typed Σ [] M θ → Fine Σ θ (parts M)
-    fine (var x) θ h = absurd (Memᴰ.not-nil h.1)
+    fine (var x) θ h = elim h.1 [ ]
     fine (get r) θ h = tt
     fine (lam x ρ M) θ h = tt
     fine (put r M) θ h = under_fine Σ h.1 θ (put• r) (parts M) _ (fine M h.1 h.3) (λ v k. tt)

@@ -106,7 +106,7 @@ found_safe [] n d s m e t h =
     let x : n ≡ m = cc in
     let y : d ≡ e = cc in
     let z : s ≡ t = cc in
-    record { none_failed = λ p i. absurd (Memᴰ.not-nil i); as_many = omega arith; depth_is = sym y ∙ sym (or-false d); steps_is = sym z ∙ sym (or-false s) }
+    record { none_failed = λ p i. elim i [ ]; as_many = omega arith; depth_is = sym y ∙ sym (or-false d); steps_is = sym z ∙ sym (or-false s) }
 found_safe (played trace failed steps ∷ plays) n d s m e t h = cc
 found_safe (played trace cut_by_depth steps ∷ plays) n d s m e t h =
     safe_more (played trace cut_by_depth steps) plays n d true s s m e t (apart cut_by_depth (inl refl)) (marks_depth d) (λ b. refl) (found_safe plays (suc n) true s m e t h)
@@ -127,7 +127,7 @@ found_lost (played trace' failed steps' ∷ plays) n d s trace steps m e t h =
       before = [];
       after = plays;
       parts = cc;
-      none_failed = λ p i. absurd (Memᴰ.not-nil i);
+      none_failed = λ p i. elim i [ ];
       as_many = omega arith;
       depth_is = sym y ∙ sym (or-false d);
       steps_is = sym z ∙ sym (or-false s);
@@ -150,7 +150,7 @@ some_found so (x ∷ plays) e = go (so (ending_of x)) refl e (some_found so play
 
 -- a play with such an ending is some play of the list
 found_some : (so : Ending → Bool) (plays : List Played) (x : Played) → Memᴰ x plays → so (ending_of x) ≡ true → some_so so plays ≡ true
-found_some so [] x i e = absurd (Memᴰ.not-nil i)
+found_some so [] x i e = elim i [ ]
 found_some so (y ∷ plays) x (Memᴰ.head d) e = cc
 found_some so (y ∷ plays) x (Memᴰ.tail i) e = go (so (ending_of y)) (found_some so plays x i e)
   where
