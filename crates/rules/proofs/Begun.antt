@@ -119,13 +119,13 @@ global_types all (row ∷ rows) = global_types all rows
 
 method_known : (all rows : List Row) (m k : ℕ) → method_type_of (slice_get (section_rows Methods rows) m) ≡ Some k → at (method_types all rows) m ≡ some (listed_type all k)
 method_known all [] m k e = cc
-method_known all (MethodRow n f ∷ rows) zero k e = let same : method_type f ≡ k = cc in ap (λ x. some (listed_type all x)) same
+method_known all (MethodRow n f ∷ rows) zero k e = cc
 method_known all (MethodRow n f ∷ rows) (suc m) k e = method_known all rows m k e
 method_known all (row ∷ rows) m k e = method_known all rows m k e
 
 global_known : (all rows : List Row) (r k : ℕ) → global_type_of (slice_get (section_rows Globals rows) r) ≡ Some k → at (global_types all rows) r ≡ some (listed_type all k)
 global_known all [] r k e = cc
-global_known all (GlobalRow n t x ∷ rows) zero k e = let same : t ≡ k = cc in ap (λ y. some (listed_type all y)) same
+global_known all (GlobalRow n t x ∷ rows) zero k e = cc
 global_known all (GlobalRow n t x ∷ rows) (suc r) k e = global_known all rows r k e
 global_known all (row ∷ rows) r k e = global_known all rows r k e
 

@@ -109,14 +109,10 @@ module _ (G : Game) where
       let R = t.1 in
       ((cc), (cc))
 
-  not_both : (K : List Pending) (l : ℕ) (μ : Memory) (P : List ℕ) (a b : Pass) (q r : Position) → CallStep K l μ P a q → AnswerStep K l μ P b r → first_moves a ≡ first_moves b → ⊥
-  not_both K l μ P a b q r c d e =
-      cc
-
   same_step : (K : List Pending) (l : ℕ) (μ : Memory) (P : List ℕ) (a b : Pass) (q r : Position) → HostStep K l μ P a q → HostStep K l μ P b r → first_moves a ≡ first_moves b → (a ≡ b) × (q ≡ r)
   same_step K l μ P a b q r (calling c) (calling d) e = same_call K l μ P a b q r c d e
-  same_step K l μ P a b q r (calling c) (answering d) e = absurd (not_both K l μ P a b q r c d e)
-  same_step K l μ P a b q r (answering c) (calling d) e = absurd (not_both K l μ P b a r q d c (sym e))
+  same_step K l μ P a b q r (calling c) (answering d) e = cc
+  same_step K l μ P a b q r (answering c) (calling d) e = cc
   same_step K l μ P a b q r (answering c) (answering d) e = same_answer K l μ P a b q r c d e
 
   -- two passes from a position that make the same host moves, with what follows, are the same

@@ -24,7 +24,7 @@ module _ (G : Game) where
 
   led_on : (E : Context) (c : Contracted) (K : List Pending) (μ : Memory) (P : List ℕ) (d : State) → within G.meaning E c ≡ some d → continued G K E c μ P ≡ led K P d
   unfolding led
-  led_on E (to N μ') K μ P d e = ap (led K P) (some-injective _ _ e)
+  led_on E (to N μ') K μ P d e = cc
   led_on E c K μ P d e = cc
 
   led_by : (s : Parts) (K : List Pending) (μ : Memory) (P : List ℕ) (d : State) → stepped G.meaning s μ ≡ some d → next_by G K s μ P ≡ led K P d

@@ -43,7 +43,7 @@ module _ {X : Type 0} where
   -- what stands at a place behind the first s elements
   at_drop : (xs : List X) (s k : ℕ) → at (drop s xs) k ≡ at xs (s + k)
   at_drop xs zero k = let e : k ≡ 0 + k = omega arith in ap (at xs) e
-  at_drop [] (suc s) k = let e : suc (s + k) ≡ suc s + k = omega arith in ap (at {A = X} []) e
+  at_drop [] (suc s) k = cc
   at_drop (y ∷ xs) (suc s) k = let e : suc (s + k) ≡ suc s + k = omega arith in at_drop xs s k ∙ ap (at (y ∷ xs)) e
 
   -- the first n elements of a list without repetition are without repetition

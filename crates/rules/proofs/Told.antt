@@ -74,7 +74,7 @@ module _ (A : Meaning) (closed : Closed A) where
 
   -- the leaves of a value that the host says have no comma and no line feed
   leaves_free : (θ : Tree) (R : List Entry) (v : Value) (R' : List Entry) → Says A θ R v R' → length R' ≤ 65535 → AllByRecursion Free (leaf_fields v)
-  leaves_free θ R v R' rule.says_unit few = ((((λ e. omega arith), tt), ((λ e. omega arith), tt)), tt)
+  leaves_free θ R v R' rule.says_unit few = omega arith
   leaves_free θ R v R' (rule.says_word w h) few = (written_free (Slots.word w) (fits w h) (λ bs e. cc), tt)
   leaves_free θ R v R' (rule.says_pair {θ = ρ} {θ' = σ} {R' = R₁} {v = a} {w = b} h k) few =
       All-append Free (leaf_fields a) (leaf_fields b) (leaves_free ρ R a R₁ h (let x = grows A σ R₁ b R' k in omega arith)) (leaves_free σ R₁ b R' k few)
