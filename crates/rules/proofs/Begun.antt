@@ -1,5 +1,5 @@
 -- A mounted library begins typed, so it is never stuck.
-use Rattle.std.proofs.Common.{◌≡◌, ℕ, zero, suc, ◌+◌, ◌<◌, ◌≤◌, true, ◌⊎◌, List, [], ◌∷◌, ◌++◌, length, get_or, ℤ, Some, None, Option, sym, refl, ap, ◌∙◌, subst, inl, inr, append_assoc, append-nil, arith, length-append}
+use Rattle.std.proofs.Common.{◌≡◌, ℕ, zero, suc, ◌+◌, ◌<◌, ◌≤◌, true, ◌⊎◌, List, [], ◌∷◌, ◌++◌, length, get_or, ℤ, Some, sym, refl, ap, ◌∙◌, subst, inl, inr, append_assoc, append-nil, arith, length-append}
 use mathlib.Core.List.{Memᴰ}
 use mathlib.Core.Option.{some}
 use Rattle.std.specs.List.{slice_get}
@@ -13,16 +13,16 @@ use Rattle.rows.specs.declared.forms.MethodForm.{MethodForm}
 use Rattle.rows.specs.declared.forms.MethodForm.TheVariants.{Abstract, Public, Private}
 use Rattle.rows.specs.declared.forms.TermForm.TheVariants.{Num, Lam}
 use Rattle.rows.specs.declared.forms.Row.{Row}
-use Rattle.rows.specs.declared.forms.Row.TheVariants.{«Type» as TypeRow, Variable as VariableRow, Method as MethodRow, Global as GlobalRow, Term as TermRow}
+use Rattle.rows.specs.declared.forms.Row.TheVariants.{«Type» as TypeRow, Variable as VariableRow, Method as MethodRow, Global as GlobalRow}
 use Rattle.rows.specs.declared.forms.Section.{Section}
 use Rattle.rows.specs.declared.forms.Section.TheVariants.{Variables, Methods, Globals}
 use Rattle.rows.specs.Sections.{section, limit, count}
 use Rattle.rows.specs.Faults.{NoneOf, RowFault, WithinLimits, row_leaves}
-use Rattle.rows.specs.Types.{Tree, leaves, tree, with_row, types_after, types, unit as unit_type, int as int_type, fun as function_type}
+use Rattle.rows.specs.Types.{Tree, leaves, tree, types_after, types, unit as unit_type, int as int_type, fun as function_type}
 use Rattle.rows.proofs.Admits.{count_push, types_push}
 use Rattle.library.specs.Listing.{section_rows, method_type, method_type_of, global_type_of, variable_type_of}
 use Rattle.library.specs.Definitions.{ClosedFunction, MethodRule, GlobalRule}
-use Rattle.rules.specs.Terms.{Term, Value, word, name, ⟨⟩, lam, ⌊◌⌋}
+use Rattle.rules.specs.Terms.{Term, word, name, ⟨⟩, lam}
 use Rattle.rules.specs.Memory.{Entry, host_name, library_name, Memory, at}
 use Rattle.rules.specs.Unfolding.{listed_type, argument, result, variable_types, variable_type, unfolded, Begins, with_word, with_function, begins, method_body, method_entry, method_entries, with_beginning, with_globals, start_memory}
 use Rattle.rules.specs.Game.{Game, start}

@@ -1,5 +1,5 @@
 -- How many host moves a play has; a losing play is full.
-use Rattle.std.proofs.Common.{◌≡◌, ℕ, suc, ◌+◌, ◌≤◌, List, ◌∷◌, length, ap, arith}
+use Rattle.std.proofs.Common.{ℕ, suc, ◌+◌, ◌≤◌, List, ◌∷◌, length, ap, arith}
 use Rattle.rules.specs.Game.{Game, Position, Pass, host_call, host_answer, library_call, library_answer}
 use Rattle.rules.specs.Plays.{Run, Ending, failed, turn, Move, host_moves, Play, LosingPlay, FullPlay}
 use Rattle.rules.specs.Plays as play

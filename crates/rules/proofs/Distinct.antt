@@ -1,16 +1,16 @@
 -- No name is shown twice, so no play comes before itself, and the list of full plays is without repetition.
-use Rattle.std.proofs.Common.{◌≡◌, ℕ, suc, ◌≤◌, Bool, true, false, ◌||◌, eqb, ◌⊎◌, List, [], ◌∷◌, ◌++◌, map, length, ℤ, sym, refl, ◌∙◌, subst, inl, inr, arith, eq-eqb}
+use Rattle.std.proofs.Common.{◌≡◌, ℕ, suc, ◌≤◌, Bool, false, eqb, ◌⊎◌, List, [], ◌∷◌, ◌++◌, map, length, ℤ, sym, refl, ◌∙◌, subst, inl, inr, arith, eq-eqb}
 use mathlib.Core.List.Memᴰ
 use mathlib.Core.List.{Memᴰ}
-use mathlib.Core.Option.{Option, none, some}
+use mathlib.Core.Option.{Option, some}
 use Rattle.std.proofs.lemmas.Bool.{or_parts}
 use Rattle.std.proofs.lemmas.List.{length-map}
 use Rattle.arithmetic.specs.Meaning.{WordList, Listed}
 use Rattle.rows.specs.declared.forms.MethodForm.TheVariants.{Abstract, Public, Private}
 use Rattle.rows.specs.declared.forms.Row.{Row}
-use Rattle.rows.specs.declared.forms.Row.TheVariants.{«Type» as TypeRow, Variable as VariableRow, Method as MethodRow, Global as GlobalRow, Term as TermRow}
-use Rattle.rules.specs.Terms.{Value, unit, word, name, pair}
-use Rattle.rules.specs.Memory.{Entry, host_name, library_name, at}
+use Rattle.rows.specs.declared.forms.Row.TheVariants.{Method as MethodRow}
+use Rattle.rules.specs.Terms.{Value, name, pair}
+use Rattle.rules.specs.Memory.{Entry, library_name, at}
 use Rattle.rules.specs.Unfolding.{public_from}
 use Rattle.rules.specs.Game.{Game, Position, library_runs, host_turn, start, Pass, stands, show_once, shown, ◌⊢◌─◌⟹◌}
 use Rattle.rules.specs.Game as rule

@@ -1,12 +1,12 @@
 -- The stepping function takes exactly the steps of the rules, so there is at most one.
-use Rattle.std.proofs.Common.{◌≡◌, ℕ, Bool, true, false, [], ◌∷◌, ℤ, sym, refl, ap, ◌∙◌, subst}
-use mathlib.Core.Option.{Option, none, some, none-ne-some, some-injective}
+use Rattle.std.proofs.Common.{◌≡◌, ℕ, Bool, true, false, [], ◌∷◌, ℤ, sym, refl, ap, ◌∙◌}
+use mathlib.Core.Option.{Option, none, some, some-injective}
 use Rattle.arithmetic.specs.Meaning.{Meaning}
 use Rattle.rules.specs.Terms.{Term, Value, Context, Frame, choose, plug, fill, ⌊◌⌋}
-use Rattle.rules.specs.Terms.{⟨⟩, num, var, meth, get, lam, put, op, tuple, fst, snd, app, ite, let_in, assert, ⟪◌⟫}
+use Rattle.rules.specs.Terms.{num, var, meth, get, put, op, tuple, fst, snd, app, ite, let_in, assert, ⟪◌⟫}
 use Rattle.rules.specs.Terms.{unit, word, name, pair}
 use Rattle.rules.specs.Terms.{assert•, put•, op•₁, op•₂, tuple•₁, tuple•₂, fst•, snd•, app•₁, app•₂, let•, ite•, box•}
-use Rattle.rules.specs.Memory.{Entry, host_name, library_name, Memory, at}
+use Rattle.rules.specs.Memory.{Entry, library_name, Memory, at}
 use Rattle.rules.specs.Steps.{State, ◌∣◌, ◌⊢◌⟶◌}
 use Rattle.rules.specs.Steps as rule
 use Rattle.rules.specs.Stepping.{Redex, ⌈◌⌉, Parts, value, redex, neither, parts, under, on_word, on_name, on_pair, to, contract, reading, asserting, calling, within, stepped, next, TakesTheSteps, OneStep}

@@ -1,11 +1,11 @@
 -- What the library does next, by the relation and by the function.
-use Rattle.std.proofs.Common.{◌≡◌, ℕ, Bool, true, false, ltb, List, [], ◌∷◌, ℤ, refl, ap, subst, ltb-false, ltb-true, le-ltb, lt-ltb}
-use mathlib.Core.Option.{Option, none, some, none-ne-some, some-injective}
+use Rattle.std.proofs.Common.{◌≡◌, ℕ, Bool, true, false, ltb, List, ◌∷◌, ℤ, refl, ltb-false, ltb-true, le-ltb, lt-ltb}
+use mathlib.Core.Option.{Option, none, some}
 use Rattle.rules.specs.Terms.{Term, Value, Context, plug, ⌊◌⌋, num, app, meth, assert, get}
 use Rattle.rules.specs.Memory.{Entry, host_name, library_name, Memory, at}
 use Rattle.rules.specs.Steps.{State, ◌∣◌, ◌⊢◌⟶◌}
 use Rattle.rules.specs.Steps as step
-use Rattle.rules.specs.Stepping.{Redex, ⌈◌⌉, Parts, value, redex, neither, parts, Contracted, to, failing, asks, stuck, contract, reading, asserting, calling, within, stepped}
+use Rattle.rules.specs.Stepping.{Redex, ⌈◌⌉, Parts, value, redex, neither, parts, Contracted, to, contract, reading, asserting, calling, within, stepped}
 use Rattle.rules.specs.Stepping.{lam!, let!, op!, fst!, snd!, ite!, get!, put!, assert!, call!, leave! }
 use Rattle.rules.specs.Game.{Game, Pending, library_waits, host_waits, Position, library_runs, host_turn, Pass, ◌⊢◌─◌⟹◌, Fails, TooDeep}
 use Rattle.rules.specs.Game as rule

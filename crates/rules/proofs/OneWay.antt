@@ -1,5 +1,5 @@
 -- The order of plays goes one way only: no play comes before one that comes before it.
-use Rattle.std.proofs.Common.{◌≡◌, ℕ, suc, List, [], ◌∷◌, ◌++◌, ℤ, sym, refl, ap, ◌∙◌, subst, arith}
+use Rattle.std.proofs.Common.{◌≡◌, ℕ, suc, List, [], ◌∷◌, ◌++◌, ℤ, sym, refl, ap, ◌∙◌, arith}
 use mathlib.Core.List.{Memᴰ}
 use Rattle.arithmetic.specs.Meaning.{WordList, Listed}
 use Rattle.rules.specs.Memory.{Memory}

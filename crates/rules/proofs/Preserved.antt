@@ -1,5 +1,5 @@
 -- Typed positions: each step of the game keeps them typed and adds at most four names, and none is stuck.
-use Rattle.std.proofs.Common.{◌≡◌, ℕ, zero, suc, ◌+◌, ◌*◌, ◌<◌, ◌≤◌, Bool, true, false, ◌⊎◌, List, [], ◌∷◌, ◌++◌, length, set, sym, refl, ap, ◌∙◌, subst, inl, inr, arith, length-append}
+use Rattle.std.proofs.Common.{◌≡◌, ℕ, suc, ◌+◌, ◌*◌, ◌<◌, ◌≤◌, Bool, true, false, ◌⊎◌, List, [], ◌∷◌, ◌++◌, length, sym, refl, ap, ◌∙◌, subst, inl, inr, arith, length-append}
 use mathlib.Core.Option.{Option, none, some}
 use Rattle.std.specs.List.{AllZip}
 use Rattle.std.proofs.str.Laws.{order}
@@ -11,7 +11,7 @@ use Rattle.rules.specs.Memory.{Entry, host_name, library_name, Memory, at}
 use Rattle.rules.specs.Steps.{State, ◌∣◌, ◌⊢◌⟶◌}
 use Rattle.rules.specs.Steps as step
 use Rattle.rules.specs.Stepping.{Redex, ⌈◌⌉, Parts, value, redex, neither, parts, contract, reading, asserting, calling}
-use Rattle.rules.specs.Stepping.{lam!, let!, op!, fst!, snd!, ite!, get!, put!, assert!, call!, leave! }
+use Rattle.rules.specs.Stepping.{get!, assert!, call! }
 use Rattle.rules.specs.Game.{Game, Pending, library_waits, host_waits, Position, library_runs, host_turn, Pass, Says, ◌⊢◌─◌⟹◌, Fails, TooDeep}
 use Rattle.rules.specs.Game as rule
 use Rattle.rules.specs.Plays.{Run, Ends, Ending}

@@ -1,6 +1,5 @@
 -- Places in a list of all full plays count the full plays in a range.
-use Rattle.std.proofs.Common.{◌≡◌, ℕ, zero, suc, ◌+◌, ◌-◌, ◌<◌, ◌≤◌, ◌⊎◌, List, [], ◌∷◌, map, length, take, drop, sym, ap, ◌∙◌, subst, inl, inr, arith, length-drop, length-take}
-use mathlib.Core.List.Memᴰ
+use Rattle.std.proofs.Common.{◌≡◌, ℕ, zero, suc, ◌+◌, ◌-◌, ◌<◌, ◌≤◌, ◌⊎◌, List, [], ◌∷◌, map, take, drop, sym, ap, ◌∙◌, inl, inr, arith, length-drop, length-take}
 use mathlib.Core.List.{Memᴰ}
 use mathlib.Core.Option.{Option, none, some}
 use Rattle.std.proofs.str.Laws.{order}

@@ -1,5 +1,5 @@
 -- Two plays with the same listing are the same play.
-use Rattle.std.proofs.Common.{◌≡◌, ℕ, zero, suc, ◌<◌, ◌≤◌, true, List, [], ◌∷◌, ◌++◌, length, ℤ, Some, codes, decimal, sym, refl, ap, ◌∙◌, subst, append_assoc, arith, length-append, w32, SFits}
+use Rattle.std.proofs.Common.{◌≡◌, ℕ, suc, ◌≤◌, true, List, [], ◌∷◌, ◌++◌, length, ℤ, Some, codes, decimal, sym, refl, ap, ◌∙◌, subst, append_assoc, arith, length-append, w32, SFits}
 use mathlib.Core.Option.{some}
 use Rattle.std.specs.Fmt.{signed_decimal}
 use Rattle.std.specs.List.{AllByRecursion}
@@ -11,13 +11,12 @@ use Rattle.text.specs.Reading.{number_of, word_of}
 use Rattle.text.proofs.Laws.{commas_same, written_free, number_written, word_written}
 use Rattle.arithmetic.specs.Meaning.{Meaning, Closed}
 use Rattle.rows.specs.Types.{Tree, unit as unit_type, int as int_type, pair as pair_type, fun as function_type}
-use Rattle.rules.specs.Terms.{Value, unit, word, name, pair}
-use Rattle.rules.specs.Memory.{Entry, host_name, library_name, Memory, at}
+use Rattle.rules.specs.Terms.{Value, word, pair}
+use Rattle.rules.specs.Memory.{Entry, host_name, Memory}
 use Rattle.rules.specs.Game.{Game, Pending, library_waits, host_waits, Position, library_runs, host_turn, start, Pass, host_call, host_answer, library_call, library_answer, Says, ◌⊢◌─◌⟹◌}
 use Rattle.rules.specs.Game as rule
 use Rattle.rules.specs.Plays.{Run, Ending, Ends, Move, host_moves, Play}
 use Rattle.rules.specs.Plays as play
-use Rattle.rules.specs.Enumeration.{hands}
 use Rattle.rules.specs.Listings.{name_field, leaf_fields, pass_fields, listing}
 use Rattle.rules.specs.Laws.{names_at, ListingsTellPlays}
 use Rattle.rules.proofs.Nexts.{step_next}

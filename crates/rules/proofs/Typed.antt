@@ -1,6 +1,5 @@
 -- Typed terms: weakening, substitution, contexts, and that a closed typed term is a value or has a redex.
-use Rattle.std.proofs.Common.{◌≡◌, ℕ, Bool, true, false, eqb, ◌⊎◌, List, [], ◌∷◌, ℤ, sym, refl, ap, ◌∙◌, subst, inl, inr, arith, eqb-true}
-use mathlib.Core.List.Memᴰ
+use Rattle.std.proofs.Common.{◌≡◌, ℕ, Bool, true, false, eqb, ◌⊎◌, List, [], ◌∷◌, ℤ, sym, refl, ap, ◌∙◌, inl, inr, eqb-true}
 use mathlib.Core.List.{Memᴰ}
 use mathlib.Core.Option.{some}
 use borrow.Author.Tests.{eqb-false}
@@ -8,7 +7,7 @@ use Rattle.arithmetic.specs.Meaning.{Meaning}
 use Rattle.rows.specs.Types.{Tree, unit as unit_type, int as int_type, pair as pair_type, fun as function_type}
 use Rattle.rules.specs.Terms.{Term, Value, Frame, Context, choose, plug, fill, ⌊◌⌋, ◌⟨◌/◌⟩}
 use Rattle.rules.specs.Terms.{⟨⟩, num, var, meth, get, lam, put, op, tuple, fst, snd, app, ite, let_in, assert, ⟪◌⟫}
-use Rattle.rules.specs.Terms.{unit, word, name, pair}
+use Rattle.rules.specs.Terms.{word, name, pair}
 use Rattle.rules.specs.Terms.{assert•, put•, op•₁, op•₂, tuple•₁, tuple•₂, fst•, snd•, app•₁, app•₂, let•, ite•, box•}
 use Rattle.rules.specs.Memory.{at}
 use Rattle.rules.specs.Stepping.{Parts, value, redex, neither, parts, under, on_word, on_name, on_pair}

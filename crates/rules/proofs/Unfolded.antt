@@ -1,5 +1,5 @@
 -- The terms of a mounted library, unfolded into trees, are typed.
-use Rattle.std.proofs.Common.{◌≡◌, ℕ, zero, suc, ◌+◌, ◌<◌, ◌≤◌, Bool, true, false, eqb, ◌⊎◌, List, [], ◌∷◌, ◌++◌, length, get_or, take, ℤ, Some, None, Option, sym, refl, ap, ◌∙◌, subst, inl, inr, append_assoc, append-nil, arith, length-append, eqb-true}
+use Rattle.std.proofs.Common.{◌≡◌, ℕ, zero, suc, ◌+◌, ◌<◌, ◌≤◌, Bool, true, false, eqb, ◌⊎◌, List, [], ◌∷◌, ◌++◌, length, get_or, take, ℤ, Some, None, sym, refl, ap, ◌∙◌, subst, inl, inr, append_assoc, append-nil, arith, length-append, eqb-true}
 use mathlib.Core.List.{Memᴰ}
 use borrow.Author.Tests.{eqb-false}
 use Rattle.std.specs.List.{slice_get, AllByRecursion}
@@ -10,7 +10,7 @@ use Rattle.faults.specs.declared.TextFault.TheVariants.{Reference}
 use Rattle.rows.specs.declared.forms.TermForm.{TermForm}
 use Rattle.rows.specs.declared.forms.TermForm.TheVariants.{Unit as UnitForm, Num, Var, Meth, Get, Lam, Set, Op, Pair, Fst, Snd, App, If, Let, Assert}
 use Rattle.rows.specs.declared.forms.Row.{Row}
-use Rattle.rows.specs.declared.forms.Row.TheVariants.{«Type» as TypeRow, Variable as VariableRow, Method as MethodRow, Global as GlobalRow, Term as TermRow}
+use Rattle.rows.specs.declared.forms.Row.TheVariants.{Term as TermRow}
 use Rattle.rows.specs.declared.forms.Section.{Section}
 use Rattle.rows.specs.declared.forms.Section.TheVariants.{Terms}
 use Rattle.rows.specs.Sections.{count, references}

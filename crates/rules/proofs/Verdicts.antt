@@ -8,8 +8,8 @@ use mathlib.Core.List.{Memᴰ}
 use mathlib.Core.Option.{none, some}
 use Rattle.arithmetic.specs.Meaning.{WordList, Listed}
 use Rattle.rules.specs.Memory.{at}
-use Rattle.rules.specs.Game.{Game, start, Pass}
-use Rattle.rules.specs.Plays.{Ending, failed, cut_by_depth, cut_by_steps, turn, Move, host_moves, PlayFrom, Play, FullPlay, LosingPlay}
+use Rattle.rules.specs.Game.{Game, Pass}
+use Rattle.rules.specs.Plays.{Ending, failed, cut_by_depth, cut_by_steps, turn, Move, host_moves, Play, FullPlay, LosingPlay}
 use Rattle.rules.specs.Enumeration.{Played, played, moves_of, full_plays}
 use Rattle.rules.specs.Verdicts.{Verdict, lost, safe, tried, verdict}
 use Rattle.rules.specs.Order.{Before, Counted}
