@@ -4,7 +4,7 @@ use mathlib.Core.List.Memᴰ
 use mathlib.Core.List.{Memᴰ}
 use mathlib.Core.Option.{Option, some}
 use Rattle.std.proofs.lemmas.Bool.{or_parts}
-use Rattle.std.proofs.lemmas.List.{length-map}
+use Rattle.std.proofs.lemmas.List.{append_cancel_left, length-map}
 use Rattle.arithmetic.specs.Meaning.{WordList, Listed}
 use Rattle.rows.specs.declared.forms.MethodForm.TheVariants.{Abstract, Public, Private}
 use Rattle.rows.specs.declared.forms.Row.{Row}
@@ -106,14 +106,10 @@ module _ (G : Game) where
     ahead_apart P m n x (order.called_with {vs = vs} {ws = ws} d h) e = words_apart vs ws h (cc)
     ahead_apart P m n x (order.answered_with {vs = vs} {ws = ws} d h) e = words_apart vs ws h (cc)
 
-    same_next : (xs : List Move) (m n : Move) (a b : List Move) → xs ++ (m ∷ a) ≡ xs ++ (n ∷ b) → m ≡ n
-    same_next [] m n a b e = cc
-    same_next (x ∷ xs) m n a b e = same_next xs m n a b (cc)
-
     before_apart : (x y : List Move) → Before G list x y → x ≡ y → ⊥
     before_apart x y b e =
         ahead_apart b.shown b.first b.second (run_distinct _ _ _ _ _ b.run (public_distinct 0 G.rows)) b.ahead
-        (same_next (host_moves b.trace) b.first b.second b.after_first b.after_second (sym b.earlier_is ∙ e ∙ b.later_is))
+        (let d = append_cancel_left (host_moves b.trace) (b.first ∷ b.after_first) (b.second ∷ b.after_second) (cc) in cc)
 
     pub no_repetition : (xs : List (List Move)) → Ascending (Before G list) xs → WithoutRepetition xs
     no_repetition [] h = tt

@@ -178,10 +178,6 @@ module _ (V : ℕ → Tree) (Γ : List Tree) (A : Meaning) where
   abbrev FewMore : Position → Position → Type 0
   FewMore p q = length (names_at q) ≤ length (names_at p) + 4
 
-  -- a host name has one type
-  one_type : (Σ : List Tree) (m : ℕ) (θ ρ : Tree) → at Σ m ≡ some θ → at Σ m ≡ some ρ → θ ≡ ρ
-  one_type Σ m θ ρ d e = cc
-
 module _ (G : Game) (V : ℕ → Tree) (Γ : List Tree) (closed : Closed G.meaning) (small : (x : ℕ) → Small (V x)) where
   abbrev A : Meaning
   A = G.meaning

@@ -9,7 +9,7 @@ use Rattle.rules.specs.Terms.{Term, Value, Context, plug, ⌊◌⌋, app, meth, 
 use Rattle.rules.specs.Memory.{Entry, host_name, library_name, Memory, at, with_names}
 use Rattle.rules.specs.Game.{Game, Pending, library_waits, host_waits, Position, library_runs, host_turn, Pass, host_call, host_answer, Says, ◌⊢◌─◌⟹◌}
 use Rattle.rules.specs.Game as rule
-use Rattle.rules.specs.Enumeration.{Saying, saying, in_order, each_word, with_left, both_parts, Reply, reply, calls_with, answers_with, where_true, sayings, calls_of, calls, answers_of, answers, replies}
+use Rattle.rules.specs.Enumeration.{Saying, saying, in_order, each_word, with_left, both_parts, reply, calls_with, answers_with, where_true, sayings, calls_of, calls, answers_of, answers, replies}
 
 -- the words in order are those at the places
 pub word_listed : (n : ℕ) (f : ℕ → ℤ) (p : ℕ) → p < n → Memᴰ (f p) (in_order n f)
@@ -186,10 +186,6 @@ module _ (G : Game) (list : WordList) (law : Listed G.meaning list) where
       go : Memᴰ (reply a q) (where_true (ltb l G.bounds.insistence) (calls G list P K l μ P)) ⊎ Memᴰ (reply a q) (answers G list K μ P) → G ⊢ host_turn K l μ P ─ some a ⟹ q
       go (inl j) = in_allowed K l μ P _ refl a q j
       go (inr j) = in_answers K l μ P a q j
-
-  abbrev replies_at : Position → List Reply
-  replies_at (library_runs K M μ P) = []
-  replies_at (host_turn K l μ P) = replies G list K l μ P
 
   abbrev FromHost : Position → Pass → Position → Type 0
   FromHost (library_runs K M μ P) a q = Unit {0}

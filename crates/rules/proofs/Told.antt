@@ -8,8 +8,10 @@ use Rattle.std.proofs.lemmas.List.{append_cancel_left}
 use Rattle.text.specs.Slots
 use Rattle.text.specs.Slots.{Lacks, Free, commas, line_of}
 use Rattle.text.specs.Reading.{number_of, word_of}
+use Rattle.text.proofs.Forms.{commas_lack}
 use Rattle.text.proofs.Laws.{commas_same, written_free, number_written, word_written}
 use Rattle.arithmetic.specs.Meaning.{Meaning, Closed}
+use Rattle.reader.proofs.Unique.{first_feed}
 use Rattle.rows.specs.Types.{Tree, unit as unit_type, int as int_type, pair as pair_type, fun as function_type}
 use Rattle.rules.specs.Terms.{Value, word, pair}
 use Rattle.rules.specs.Memory.{Entry, host_name, Memory}
@@ -23,21 +25,6 @@ use Rattle.rules.proofs.Nexts.{step_next}
 use Rattle.rules.proofs.Places.{inside}
 use Rattle.rules.proofs.Begun.{playable_has_few_names}
 use Rattle.rules.proofs.Determined.{Said, said, HostStep, CallStep, AnswerStep, calling, answering, host_step, one_inside, inside_no_pass, ended_no_inside, one_pass}
-
--- bytes up to the first line feed
-first_feed : (xs ys t u : List ℕ) → Lacks 10 xs → Lacks 10 ys → xs ++ (10 ∷ t) ≡ ys ++ (10 ∷ u) → (xs ≡ ys) × (t ≡ u)
-first_feed [] [] t u h k e = (refl, (cc))
-first_feed [] (y ∷ ys) t u h k e = let z : y ≡ 10 = cc in absurd (k.0 z)
-first_feed (x ∷ xs) [] t u h k e = let z : x ≡ 10 = cc in absurd (h.0 z)
-first_feed (x ∷ xs) (y ∷ ys) t u h k e =
-    let tails : xs ++ (10 ∷ t) ≡ ys ++ (10 ∷ u) = cc in
-    let p = first_feed xs ys t u h.1 k.1 tails in
-    ((cc), p.1)
-
-commas_lack : (fs : List (List ℕ)) → AllByRecursion Free fs → Lacks 10 (commas fs)
-commas_lack [] h = tt
-commas_lack (f ∷ []) h = h.0.1
-commas_lack (f ∷ g ∷ fs) h = All-append (λ b. b ≡ 10 → ⊥) f (44 ∷ commas (g ∷ fs)) h.0.1 ((λ e. omega arith), commas_lack (g ∷ fs) h.1)
 
 -- lines with the same bytes have the same fields, and so has what follows
 line_tells : (f g : List ℕ) (fs gs : List (List ℕ)) (x y : List ℕ) → AllByRecursion Free (f ∷ fs) → AllByRecursion Free (g ∷ gs) → line_of (f ∷ fs) ++ x ≡ line_of (g ∷ gs) ++ y → (◌≡◌ {A = List (List ℕ)} (f ∷ fs) (g ∷ gs)) × (x ≡ y)
