@@ -28,15 +28,13 @@ said A θ R v R' rule.says_function = (refl, refl)
 
 -- the words that begin a list tell the value at a type
 words_tell : (A : Meaning) (θ : Tree) (R : List Entry) (v w : Value) (R' R'' : List Entry) (x y : List ℤ) → Said A θ R v R' → Said A θ R w R'' → words v ++ x ≡ words w ++ y → (v ≡ w) × (R' ≡ R'') × (x ≡ y)
-words_tell A unit_type R v w R' R'' x y h k e = ((cc), (cc), (cc))
-words_tell A int_type R v w R' R'' x y h k e = ((cc), (cc), (cc))
 words_tell A (pair_type θ θ') R v w R' R'' x y h k e =
     let d = simp append_assoc at (rw (h.5, k.5) at e) in
     let first = words_tell A θ R h.0 k.0 h.2 k.2 _ _ (said A θ R _ _ h.3) (said A θ R _ _ k.3) d in
     let right : Says A θ' h.2 k.1 R'' = rw (← first.1) at k.4 in
     let second = words_tell A θ' h.2 h.1 k.1 R' R'' x y (said A θ' h.2 _ _ h.4) (said A θ' h.2 _ _ right) first.2 in
-    ((cc), second.1, second.2)
-words_tell A (function_type θ θ') R v w R' R'' x y h k e = ((cc), (cc), (cc))
+    (cc, second.1, second.2)
+words_tell A θ R v w R' R'' x y h k e = (cc, cc, cc)
 
 -- a host move as a pass
 abbrev pub first_moves : Pass → List Move
@@ -96,7 +94,7 @@ module _ (G : Game) where
       let says : Says G.meaning c.2 μ.names d.4 d.5 = rw (← θ) at d.7 in
       let t = words_tell G.meaning c.2 μ.names c.4 d.4 c.5 d.5 _ _ (said _ _ _ _ _ c.7) (said _ _ _ _ _ says) ws in
       let R = t.1 in
-      ((cc), (cc))
+      (cc, cc)
 
   same_answer : (K : List Pending) (l : ℕ) (μ : Memory) (P : List ℕ) (a b : Pass) (q r : Position) → AnswerStep K l μ P a q → AnswerStep K l μ P b r → first_moves a ≡ first_moves b → (a ≡ b) × (q ≡ r)
   same_answer K l μ P a b q r c d e =
@@ -107,7 +105,7 @@ module _ (G : Game) where
       let says : Says G.meaning c.3 μ.names d.4 d.5 = rw (← θ) at d.8 in
       let t = words_tell G.meaning c.3 μ.names c.4 d.4 c.5 d.5 _ _ (said _ _ _ _ _ c.8) (said _ _ _ _ _ says) ws in
       let R = t.1 in
-      ((cc), (cc))
+      (cc, cc)
 
   same_step : (K : List Pending) (l : ℕ) (μ : Memory) (P : List ℕ) (a b : Pass) (q r : Position) → HostStep K l μ P a q → HostStep K l μ P b r → first_moves a ≡ first_moves b → (a ≡ b) × (q ≡ r)
   same_step K l μ P a b q r (calling c) (calling d) e = same_call K l μ P a b q r c d e
@@ -120,7 +118,7 @@ module _ (G : Game) where
   one_pass (library_runs K M μ P) q r a b x y h k e =
       let s = step_next G (library_runs K M μ P) q (some a) h in
       let s' = step_next G (library_runs K M μ P) r (some b) k in
-      ((cc), (cc))
+      (cc, cc)
   one_pass (host_turn K l μ P) q r a b x y h k e =
       let c = host_step (host_turn K l μ P) q (some a) h in
       let d = host_step (host_turn K l μ P) r (some b) k in
@@ -222,7 +220,7 @@ module _ (G : Game) where
       let one = one_pass p r r' a a' y y' g g' d in
       let moves : host_moves y ≡ host_moves y' = cancel a y y' (d ∙ ap (λ z. host_moves (z ∷ y')) (sym one.0)) in
       let more = alike r q q' (suc t) u u' y y' e e' s s' run h (rw (← one.1) at run') k moves in
-      ((cc), more.1, more.2)
+      (cc, more.1, more.2)
 
 pub moves_determine_the_play : MovesDetermineThePlay
 moves_determine_the_play G moves x y =

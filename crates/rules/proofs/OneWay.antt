@@ -43,12 +43,12 @@ module _ (G : Game) where
 
 -- two lists first differ at one place
 first_difference : (u v : List Move) (a b c d : Move) (p q r s : List Move) → u ++ (a ∷ p) ≡ v ++ (c ∷ r) → u ++ (b ∷ q) ≡ v ++ (d ∷ s) → (a ≡ b → ⊥) → (c ≡ d → ⊥) → (u ≡ v) × (a ≡ c) × (b ≡ d)
-first_difference [] [] a b c d p q r s x y f g = (refl, (cc), (cc))
+first_difference [] [] a b c d p q r s x y f g = (refl, cc, cc)
 first_difference [] (m ∷ v) a b c d p q r s x y f g = absurd (f (cc))
 first_difference (m ∷ u) [] a b c d p q r s x y f g = absurd (g (cc))
 first_difference (m ∷ u) (n ∷ v) a b c d p q r s x y f g =
     let w = first_difference u v a b c d p q r s (cc) (cc) f g in
-    ((cc), w.1, w.2)
+    (cc, w.1, w.2)
 
 module _ (G : Game) (list : WordList) (law : Listed G.meaning list) where
   -- of two values, not each comes before the other by its words

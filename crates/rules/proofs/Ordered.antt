@@ -275,7 +275,7 @@ module _ (list : WordList) where
       reply_move : (K : List Pending) (l : ℕ) (μ : Memory) (P : List ℕ) (a : Pass) (q : Position) → Memᴰ (reply a q) (replies G list K l μ P) → first_moves a ≡ move_of a ∷ []
       reply_move K l μ P a q i =
           let w = moves_at G (host_turn K l μ P) q (some a) (replies_are G list law K l μ P a q i) in
-          let e : w.0 ≡ a = (cc) in
+          let e : w.0 ≡ a = cc in
           rw e at w.2
 
       -- a play after a reply of a list

@@ -29,7 +29,7 @@ each_in R w (v ∷ ws) (Memᴰ.tail i) = Memᴰ.tail (each_in R w ws i)
 
 pub in_each : (R R' : List Entry) (v : Value) (ws : List ℤ) → Memᴰ (saying v R') (each_word R ws) → (w : ℤ) × Memᴰ w ws × (v ≡ word w) × (R' ≡ R)
 in_each R R' v [] i = elim i [ ]
-in_each R R' v (w ∷ ws) (Memᴰ.head e) = (w, Memᴰ.head refl, (cc), (cc))
+in_each R R' v (w ∷ ws) (Memᴰ.head e) = (w, Memᴰ.head refl, cc, cc)
 in_each R R' v (w ∷ ws) (Memᴰ.tail i) = let x = in_each R R' v ws i in (x.0, Memᴰ.tail x.1, x.2, x.3)
 
 left_in : (v w : Value) (R : List Entry) (ss : List Saying) → Memᴰ (saying w R) ss → Memᴰ (saying (pair v w) R) (with_left v ss)
@@ -44,7 +44,7 @@ pub in_left : (v u : Value) (R : List Entry) (ss : List Saying) → Memᴰ (sayi
 in_left v u R [] i = elim i [ ]
 in_left v u R (saying w R' ∷ ss) (Memᴰ.head e) =
     let b : R ≡ R' = cc in
-    (w, Memᴰ.head (rw b), (cc))
+    (w, Memᴰ.head (rw b), cc)
 in_left v u R (saying w R' ∷ ss) (Memᴰ.tail i) = let x = in_left v u R ss i in (x.0, Memᴰ.tail x.1, x.2)
 
 both_in : (right : List Entry → List Saying) (v w : Value) (R R' : List Entry) (ss : List Saying) → Memᴰ (saying v R) ss → Memᴰ (saying w R') (right R) → Memᴰ (saying (pair v w) R') (both_parts right ss)
@@ -120,7 +120,7 @@ module _ (G : Game) (list : WordList) (law : Listed G.meaning list) where
 
     pub in_with : (m : ℕ) (a : Pass) (q : Position) (ss : List Saying) → Memᴰ (reply a q) (calls_with m ss K l μ P) → (v : Value) × (R : List Entry) × Memᴰ (saying v R) ss × (a ≡ host_call m v) × (q ≡ called m v R)
     in_with m a q [] i = elim i [ ]
-    in_with m a q (saying v R ∷ ss) (Memᴰ.head e) = (v, R, Memᴰ.head refl, (cc), (cc))
+    in_with m a q (saying v R ∷ ss) (Memᴰ.head e) = (v, R, Memᴰ.head refl, cc, cc)
     in_with m a q (saying v R ∷ ss) (Memᴰ.tail i) = let x = in_with m a q ss i in (x.0, x.1, Memᴰ.tail x.2, x.3, x.4)
 
     calls_in : (ms : List ℕ) (m x : ℕ) (θ : Tree) (M : Term) (v : Value) (R : List Entry) → Memᴰ m ms → at μ.names m ≡ some (library_name x θ M) → Says G.meaning θ μ.names v R → Memᴰ (reply (host_call m v) (called m v R)) (calls G list ms K l μ P)
@@ -163,7 +163,7 @@ module _ (G : Game) (list : WordList) (law : Listed G.meaning list) where
 
     pub in_answer : (a : Pass) (q : Position) (ss : List Saying) → Memᴰ (reply a q) (answers_with m E ss K μ P) → (v : Value) × (R : List Entry) × Memᴰ (saying v R) ss × (a ≡ host_answer m v) × (q ≡ answered v R)
     in_answer a q [] i = elim i [ ]
-    in_answer a q (saying v R ∷ ss) (Memᴰ.head e) = (v, R, Memᴰ.head refl, (cc), (cc))
+    in_answer a q (saying v R ∷ ss) (Memᴰ.head e) = (v, R, Memᴰ.head refl, cc, cc)
     in_answer a q (saying v R ∷ ss) (Memᴰ.tail i) = let x = in_answer a q ss i in (x.0, x.1, Memᴰ.tail x.2, x.3, x.4)
 
     in_answers_of : (l : ℕ) (o : Option Entry) (a : Pass) (q : Position) → at μ.names m ≡ o → Memᴰ (reply a q) (answers_of G list o m E K μ P) → G ⊢ host_turn (library_waits m E ∷ K) l μ P ─ some a ⟹ q

@@ -12,7 +12,7 @@ use Rattle.text.proofs.Forms.{commas_lack}
 use Rattle.text.proofs.Laws.{commas_same, written_free, number_written, word_written}
 use Rattle.arithmetic.specs.Meaning.{Meaning, Closed}
 use Rattle.reader.proofs.Unique.{first_feed}
-use Rattle.rows.specs.Types.{Tree, unit as unit_type, int as int_type, pair as pair_type, fun as function_type}
+use Rattle.rows.specs.Types.{Tree, int as int_type, pair as pair_type}
 use Rattle.rules.specs.Terms.{Value, word, pair}
 use Rattle.rules.specs.Memory.{Entry, host_name, Memory}
 use Rattle.rules.specs.Game.{Game, Pending, library_waits, host_waits, Position, library_runs, host_turn, start, Pass, host_call, host_answer, library_call, library_answer, Says, ◌⊢◌─◌⟹◌}
@@ -80,18 +80,17 @@ module _ (A : Meaning) (closed : Closed A) where
 
   -- the leaves tell the value at a type
   leaves_tell : (θ : Tree) (R : List Entry) (v w : Value) (R' R'' : List Entry) (x y : List (List ℕ)) → Said A θ R v R' → Said A θ R w R'' → Sayable v → Sayable w → leaf_fields v ++ x ≡ leaf_fields w ++ y → (v ≡ w) × (R' ≡ R'') × (x ≡ y)
-  leaves_tell unit_type R v w R' R'' x y h k i j e = ((cc), (cc), (cc))
   leaves_tell int_type R v w R' R'' x y h k i j e =
       let one : signed_decimal h.0 ≡ signed_decimal k.0 = cc in
       let s = same_signed h.0 k.0 (fits h.0 (subst Sayable h.1 i)) (fits k.0 (subst Sayable k.1 j)) one in
-      ((cc), (cc), (cc))
+      (cc, cc, cc)
   leaves_tell (pair_type θ θ') R v w R' R'' x y h k i j e =
       let d = simp append_assoc at (rw (h.5, k.5) at e) in
       let first = leaves_tell θ R h.0 k.0 h.2 k.2 _ _ (said A θ R _ _ h.3) (said A θ R _ _ k.3) (sayable θ R _ _ h.3) (sayable θ R _ _ k.3) d in
       let right : Says A θ' h.2 k.1 R'' = rw (← first.1) at k.4 in
       let second = leaves_tell θ' h.2 h.1 k.1 R' R'' x y (said A θ' h.2 _ _ h.4) (said A θ' h.2 _ _ right) (sayable θ' _ _ _ h.4) (sayable θ' _ _ _ k.4) first.2 in
-      ((cc), second.1, second.2)
-  leaves_tell (function_type θ θ') R v w R' R'' x y h k i j e = ((cc), (cc), (cc))
+      (cc, second.1, second.2)
+  leaves_tell θ R v w R' R'' x y h k i j e = (cc, cc, cc)
 
 host_free : Free (codes "H")
 host_free = omega arith
@@ -160,7 +159,7 @@ module _ (G : Game) (closed : Closed G.meaning) where
       let s = step_next G (library_runs K M μ P) q (some a) h in
       let s' = step_next G (library_runs K M μ P) r (some b) k in
       let same : a ≡ b = cc in
-      (same, (cc), append_cancel_left (line_of (pass_fields a)) x y (cc))
+      (same, cc, append_cancel_left (line_of (pass_fields a)) x y (cc))
   pass_told (host_turn K l μ P) q r a b x y few fq fr h k e =
       let c = host_step G (host_turn K l μ P) q (some a) h in
       let d = host_step G (host_turn K l μ P) r (some b) k in

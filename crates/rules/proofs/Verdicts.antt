@@ -225,7 +225,7 @@ module _ (G : Game) (list : WordList) (law : Listed G.meaning list) (plays : Lis
         no_losing_play = λ moves x. h.none_failed _ (losing_listed moves x) refl;
         tried =
             tried_with plays (FullPlay G) (λ x i. i) (full_of G list law plays all) (listed_play G list law plays all) n d s
-            (let k : length plays ≡ n = (omega arith) in subst (Counted (FullPlay G)) k (full_plays_are_counted G list law plays all).counted) h.depth_is h.steps_is;
+            (let k : length plays ≡ n = omega arith in subst (Counted (FullPlay G)) k (full_plays_are_counted G list law plays all).counted) h.depth_is h.steps_is;
       }
 
   module _ (trace : List Pass) (steps n : ℕ) (d s : Bool) (h : FoundLost plays 0 false false trace steps n d s) where
@@ -244,7 +244,7 @@ module _ (G : Game) (list : WordList) (law : Listed G.meaning list) (plays : Lis
     -- a play that stands before the losing one
     sooner : (xs ys : List Played) (k : ℕ) (moves : List Move) → k < length xs → at (map moves_of (xs ++ ys)) k ≡ some moves → (x : Played) × Memᴰ x xs × (moves_of x ≡ moves)
     sooner [] ys k moves lt e = absurd (omega arith)
-    sooner (x ∷ xs) ys zero moves lt e = (x, Memᴰ.head refl, (cc))
+    sooner (x ∷ xs) ys zero moves lt e = (x, Memᴰ.head refl, cc)
     sooner (x ∷ xs) ys (suc k) moves lt e = let w = sooner xs ys k moves (omega arith) e in (w.0, Memᴰ.tail w.1, w.2)
 
     -- a play before it is among the plays
@@ -286,7 +286,7 @@ module _ (G : Game) (list : WordList) (law : Listed G.meaning list) (plays : Lis
           tried_with part (FullInRange G list none (host_moves trace)) part_inside
           (λ x i. range_in G list law plays all j (host_moves trace) at_j (moves_of x) (rw (← part_is) at (Memᴰ.map moves_of i)))
           (λ moves r. rw part_is at (in_range G list law plays all j (host_moves trace) at_j moves r)) n d s
-          (let k : suc j ≡ n = (omega arith) in subst (Counted (FullInRange G list none (host_moves trace))) k ((full_plays_are_counted G list law plays all).counted_up_to j (host_moves trace) at_j))
+          (let k : suc j ≡ n = omega arith in subst (Counted (FullInRange G list none (host_moves trace))) k ((full_plays_are_counted G list law plays all).counted_up_to j (host_moves trace) at_j))
           (h.depth_is ∙ sym (some_append by_depth h.before trace failed steps refl)) (h.steps_is ∙ sym (some_append by_steps h.before trace failed steps refl));
     }
 
