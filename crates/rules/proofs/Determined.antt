@@ -1,6 +1,7 @@
 -- A play's moves determine the play.
-use Rattle.std.proofs.Common.{◌≡◌, ℕ, suc, ◌<◌, List, [], ◌∷◌, ◌++◌, length, ℤ, sym, refl, ap, ◌∙◌, append_assoc, arith}
+use Rattle.std.proofs.Common.{◌≡◌, ℕ, suc, ◌<◌, true, List, [], ◌∷◌, ◌++◌, length, ℤ, sym, refl, ap, ◌∙◌, append_assoc, arith}
 use mathlib.Core.Option.{Option, none, some}
+use Rattle.std.proofs.lemmas.List.{append_cancel_left}
 use Rattle.arithmetic.specs.Meaning.{Meaning}
 use Rattle.rows.specs.Types.{Tree, unit as unit_type, int as int_type, pair as pair_type, fun as function_type}
 use Rattle.rules.specs.Terms.{Term, Value, Context, plug, ⌊◌⌋, app, meth, unit, word, name, pair}
@@ -16,25 +17,37 @@ use Rattle.rules.proofs.Nexts.{NextIs, step_next, fails_next, deep_next}
 -- what a value that the host says at a type is
 abbrev pub Said : Meaning → Tree → List Entry → Value → List Entry → Type 0
 Said A unit_type R v R' = (v ≡ unit) × (R' ≡ R)
-Said A int_type R v R' = (w : ℤ) × (v ≡ word w) × (R' ≡ R)
+Said A int_type R v R' = (w : ℤ) × (A.may_say w ≡ true) × (v ≡ word w) × (R' ≡ R)
 Said A (pair_type θ θ') R v R' = (a : Value) × (b : Value) × (R₁ : List Entry) × Says A θ R a R₁ × Says A θ' R₁ b R' × (v ≡ pair a b)
 Said A (function_type θ θ') R v R' = (v ≡ name (length R)) × (R' ≡ R ++ (host_name θ θ' ∷ []))
 
 pub said : (A : Meaning) (θ : Tree) (R : List Entry) (v : Value) (R' : List Entry) → Says A θ R v R' → Said A θ R v R'
 said A θ R v R' rule.says_unit = (refl, refl)
-said A θ R v R' (rule.says_word w h) = (w, refl, refl)
+said A θ R v R' (rule.says_word w h) = (w, h, refl, refl)
 said A θ R v R' (rule.says_pair {R' = R₁} {v = a} {w = b} h k) = (a, b, R₁, h, k, refl)
 said A θ R v R' rule.says_function = (refl, refl)
 
+-- what is written of a value's leaves, one after another, tells the value at a type, where it tells the words that may be said
+module _ {W : Type 0} (A : Meaning) (written : Value → List W) (pairs : (v w : Value) → written (pair v w) ≡ written v ++ written w)
+    (word_told : (i j : ℤ) (x y : List W) → A.may_say i ≡ true → A.may_say j ≡ true → written (word i) ++ x ≡ written (word j) ++ y → i ≡ j) where
+  same_rest : (v w : Value) (x y : List W) → v ≡ w → written v ++ x ≡ written w ++ y → x ≡ y
+  same_rest v w x y same e = append_cancel_left (written v) x y (cc)
+
+  pub value_told : (θ : Tree) (R : List Entry) (v w : Value) (R' R'' : List Entry) (x y : List W) → Said A θ R v R' → Said A θ R w R'' → written v ++ x ≡ written w ++ y → (v ≡ w) × (R' ≡ R'') × (x ≡ y)
+  value_told int_type R v w R' R'' x y h k e =
+      let i = word_told h.0 k.0 x y h.1 k.1 (rw (h.2, k.2) at e) in
+      (cc, cc, same_rest v w x y (cc) e)
+  value_told (pair_type θ θ') R v w R' R'' x y h k e =
+      let d = simp append_assoc at (rw (h.5, k.5, pairs h.0 h.1, pairs k.0 k.1) at e) in
+      let first = value_told θ R h.0 k.0 h.2 k.2 _ _ (said A θ R _ _ h.3) (said A θ R _ _ k.3) d in
+      let right : Says A θ' h.2 k.1 R'' = rw (← first.1) at k.4 in
+      let second = value_told θ' h.2 h.1 k.1 R' R'' x y (said A θ' h.2 _ _ h.4) (said A θ' h.2 _ _ right) first.2 in
+      (cc, second.1, second.2)
+  value_told θ R v w R' R'' x y h k e = (cc, cc, same_rest v w x y (cc) e)
+
 -- the words that begin a list tell the value at a type
 words_tell : (A : Meaning) (θ : Tree) (R : List Entry) (v w : Value) (R' R'' : List Entry) (x y : List ℤ) → Said A θ R v R' → Said A θ R w R'' → words v ++ x ≡ words w ++ y → (v ≡ w) × (R' ≡ R'') × (x ≡ y)
-words_tell A (pair_type θ θ') R v w R' R'' x y h k e =
-    let d = simp append_assoc at (rw (h.5, k.5) at e) in
-    let first = words_tell A θ R h.0 k.0 h.2 k.2 _ _ (said A θ R _ _ h.3) (said A θ R _ _ k.3) d in
-    let right : Says A θ' h.2 k.1 R'' = rw (← first.1) at k.4 in
-    let second = words_tell A θ' h.2 h.1 k.1 R' R'' x y (said A θ' h.2 _ _ h.4) (said A θ' h.2 _ _ right) first.2 in
-    (cc, second.1, second.2)
-words_tell A θ R v w R' R'' x y h k e = (cc, cc, cc)
+words_tell A = value_told A words (λ v w. refl) (λ i j x y h k e. cc)
 
 -- a host move as a pass
 abbrev pub first_moves : Pass → List Move

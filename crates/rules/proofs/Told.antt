@@ -12,8 +12,8 @@ use Rattle.text.proofs.Forms.{commas_lack}
 use Rattle.text.proofs.Laws.{commas_same, written_free, number_written, word_written}
 use Rattle.arithmetic.specs.Meaning.{Meaning, Closed}
 use Rattle.reader.proofs.Unique.{first_feed}
-use Rattle.rows.specs.Types.{Tree, int as int_type, pair as pair_type}
-use Rattle.rules.specs.Terms.{Value, word, pair}
+use Rattle.rows.specs.Types.{Tree}
+use Rattle.rules.specs.Terms.{Value}
 use Rattle.rules.specs.Memory.{Entry, host_name, Memory}
 use Rattle.rules.specs.Game.{Game, Pending, library_waits, host_waits, Position, library_runs, host_turn, start, Pass, host_call, host_answer, library_call, library_answer, Says, ◌⊢◌─◌⟹◌}
 use Rattle.rules.specs.Game as rule
@@ -24,7 +24,7 @@ use Rattle.rules.specs.Laws.{names_at, ListingsTellPlays}
 use Rattle.rules.proofs.Nexts.{step_next}
 use Rattle.rules.proofs.Places.{inside}
 use Rattle.rules.proofs.Begun.{playable_has_few_names}
-use Rattle.rules.proofs.Determined.{Said, said, HostStep, CallStep, AnswerStep, calling, answering, host_step, one_inside, inside_no_pass, ended_no_inside, one_pass}
+use Rattle.rules.proofs.Determined.{Said, said, value_told, HostStep, CallStep, AnswerStep, calling, answering, host_step, one_inside, inside_no_pass, ended_no_inside, one_pass}
 
 -- lines with the same bytes have the same fields, and so has what follows
 line_tells : (f g : List ℕ) (fs gs : List (List ℕ)) (x y : List ℕ) → AllByRecursion Free (f ∷ fs) → AllByRecursion Free (g ∷ gs) → line_of (f ∷ fs) ++ x ≡ line_of (g ∷ gs) ++ y → (◌≡◌ {A = List (List ℕ)} (f ∷ fs) (g ∷ gs)) × (x ≡ y)
@@ -66,31 +66,9 @@ module _ (A : Meaning) (closed : Closed A) where
       All-append Free (leaf_fields a) (leaf_fields b) (leaves_free ρ R a R₁ h (let x = grows A σ R₁ b R' k in omega arith)) (leaves_free σ R₁ b R' k few)
   leaves_free θ R v R' (rule.says_function {θ = ρ} {θ' = σ}) few = (name_free (length R) (omega (arith, length-append R (host_name ρ σ ∷ []))), tt)
 
-  -- the words of a value may be said
-  abbrev Sayable : Value → Type 0
-  Sayable (word w) = A.may_say w ≡ true
-  Sayable (pair v w) = Sayable v × Sayable w
-  Sayable v = Unit {0}
-
-  sayable : (θ : Tree) (R : List Entry) (v : Value) (R' : List Entry) → Says A θ R v R' → Sayable v
-  sayable θ R v R' rule.says_unit = tt
-  sayable θ R v R' (rule.says_word w h) = h
-  sayable θ R v R' (rule.says_pair {θ = ρ} {θ' = σ} {R' = R₁} {v = a} {w = b} h k) = (sayable ρ R a R₁ h, sayable σ R₁ b R' k)
-  sayable θ R v R' rule.says_function = tt
-
   -- the leaves tell the value at a type
-  leaves_tell : (θ : Tree) (R : List Entry) (v w : Value) (R' R'' : List Entry) (x y : List (List ℕ)) → Said A θ R v R' → Said A θ R w R'' → Sayable v → Sayable w → leaf_fields v ++ x ≡ leaf_fields w ++ y → (v ≡ w) × (R' ≡ R'') × (x ≡ y)
-  leaves_tell int_type R v w R' R'' x y h k i j e =
-      let one : signed_decimal h.0 ≡ signed_decimal k.0 = cc in
-      let s = same_signed h.0 k.0 (fits h.0 (subst Sayable h.1 i)) (fits k.0 (subst Sayable k.1 j)) one in
-      (cc, cc, cc)
-  leaves_tell (pair_type θ θ') R v w R' R'' x y h k i j e =
-      let d = simp append_assoc at (rw (h.5, k.5) at e) in
-      let first = leaves_tell θ R h.0 k.0 h.2 k.2 _ _ (said A θ R _ _ h.3) (said A θ R _ _ k.3) (sayable θ R _ _ h.3) (sayable θ R _ _ k.3) d in
-      let right : Says A θ' h.2 k.1 R'' = rw (← first.1) at k.4 in
-      let second = leaves_tell θ' h.2 h.1 k.1 R' R'' x y (said A θ' h.2 _ _ h.4) (said A θ' h.2 _ _ right) (sayable θ' _ _ _ h.4) (sayable θ' _ _ _ k.4) first.2 in
-      (cc, second.1, second.2)
-  leaves_tell θ R v w R' R'' x y h k i j e = (cc, cc, cc)
+  leaves_tell : (θ : Tree) (R : List Entry) (v w : Value) (R' R'' : List Entry) (x y : List (List ℕ)) → Said A θ R v R' → Said A θ R w R'' → leaf_fields v ++ x ≡ leaf_fields w ++ y → (v ≡ w) × (R' ≡ R'') × (x ≡ y)
+  leaves_tell = value_told A leaf_fields (λ v w. refl) (λ i j x y h k e. same_signed i j (fits i h) (fits j k) (cc))
 
 host_free : Free (codes "H")
 host_free = omega arith
@@ -128,7 +106,7 @@ module _ (G : Game) (closed : Closed G.meaning) where
         let m : c.0 ≡ d.0 = same_decimal c.0 d.0 (omega arith) (omega arith) names in
         let θ : c.2 ≡ d.2 = cc in
         let says : Says G.meaning c.2 μ.names d.4 d.5 = rw (← θ) at d.7 in
-        let v = leaves_tell G.meaning closed c.2 μ.names c.4 d.4 c.5 d.5 [] [] (said _ _ _ _ _ c.7) (said _ _ _ _ _ says) (sayable G.meaning closed _ _ _ _ c.7) (sayable G.meaning closed _ _ _ _ d.7) (cc) in
+        let v = leaves_tell G.meaning closed c.2 μ.names c.4 d.4 c.5 d.5 [] [] (said _ _ _ _ _ c.7) (said _ _ _ _ _ says) (cc) in
         (cc, told.1)
 
     answer_told : (a b : Pass) (q r : Position) (x y : List ℕ) → Few (host_turn K l μ P) → Few q → Few r → AnswerStep G K l μ P a q → AnswerStep G K l μ P b r → line_of (pass_fields a) ++ x ≡ line_of (pass_fields b) ++ y → (a ≡ b) × (x ≡ y)
@@ -137,7 +115,7 @@ module _ (G : Game) (closed : Closed G.meaning) where
         let told = line_tells (codes "H") (codes "H") (codes "ret" ∷ name_field c.0 ∷ leaf_fields c.4) (codes "ret" ∷ name_field d.0 ∷ leaf_fields d.4) x y (answer_fields_free a q few fq c) (answer_fields_free b r few fr d) lines in
         let θ : c.3 ≡ d.3 = cc in
         let says : Says G.meaning c.3 μ.names d.4 d.5 = rw (← θ) at d.8 in
-        let v = leaves_tell G.meaning closed c.3 μ.names c.4 d.4 c.5 d.5 [] [] (said _ _ _ _ _ c.8) (said _ _ _ _ _ says) (sayable G.meaning closed _ _ _ _ c.8) (sayable G.meaning closed _ _ _ _ d.8) (cc) in
+        let v = leaves_tell G.meaning closed c.3 μ.names c.4 d.4 c.5 d.5 [] [] (said _ _ _ _ _ c.8) (said _ _ _ _ _ says) (cc) in
         (cc, told.1)
 
     -- a call's line is not an answer's
