@@ -1,5 +1,6 @@
 -- A mounted library begins typed, so it is never stuck.
-use Rattle.std.proofs.Common.{◌≡◌, ℕ, zero, suc, ◌+◌, ◌<◌, ◌≤◌, true, ◌⊎◌, List, [], ◌∷◌, ◌++◌, length, get_or, ℤ, Some, sym, refl, ap, ◌∙◌, subst, inl, inr, append_assoc, append-nil, arith, length-append}
+use Rattle.std.proofs.Common.{◌≡◌, ℕ, zero, suc, ◌+◌, ◌<◌, ◌≤◌, true, List, [], ◌∷◌, ◌++◌, length, get_or, ℤ, Some, sym, refl, ap, ◌∙◌, subst, inl, inr, append_assoc, append-nil, arith, length-append}
+use Rattle.std.proofs.Math.Logic.{⊎_elim}
 use mathlib.Core.List.{Memᴰ}
 use mathlib.Core.Option.{some}
 use Rattle.std.specs.List.{slice_get}
@@ -36,18 +37,13 @@ use Rattle.rules.proofs.Preserved.{Small, EntryOk, EntriesOk, GlobalOk, GlobalsO
 
 -- what a row may not break
 limits_stable : (b : List Row) (r : Row) → NoneOf (RowFault true b r) → (count (section r) b < limit (section r)) × (row_leaves b r ≤ 4)
-limits_stable b r h = (first (order (count (section r) b) (limit (section r))), second (order 4 (row_leaves b r)))
+limits_stable b r h = (
+  ⊎_elim (λ lt. lt) (λ le. absurd (no (λ w. omega arith))) (order (count (section r) b) (limit (section r))),
+  ⊎_elim (λ lt. absurd (no (λ w. omega arith))) (λ le. le) (order 4 (row_leaves b r)),
+)
   where
     no : (WithinLimits b r → ⊥) → ⊥
     no f = h Limit (inl f)
-
-    first : (count (section r) b < limit (section r)) ⊎ (limit (section r) ≤ count (section r) b) → count (section r) b < limit (section r)
-    first (inl lt) = lt
-    first (inr ge) = absurd (no (λ w. omega arith))
-
-    second : (4 < row_leaves b r) ⊎ (row_leaves b r ≤ 4) → row_leaves b r ≤ 4
-    second (inl lt) = absurd (no (λ w. omega arith))
-    second (inr ge) = ge
 
 -- the listed types are small
 abbrev AllSmall : List Tree → Type 0

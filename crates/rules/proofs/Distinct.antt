@@ -1,5 +1,6 @@
 -- No name is shown twice, so no play comes before itself, and the list of full plays is without repetition.
-use Rattle.std.proofs.Common.{◌≡◌, ℕ, suc, ◌≤◌, Bool, false, eqb, ◌⊎◌, List, [], ◌∷◌, ◌++◌, map, length, ℤ, sym, refl, ◌∙◌, subst, inl, inr, arith, eq-eqb}
+use Rattle.std.proofs.Common.{◌≡◌, ℕ, suc, ◌≤◌, Bool, false, eqb, ◌⊎◌, List, [], ◌∷◌, ◌++◌, map, length, ℤ, sym, refl, subst, inl, inr, arith, eq-eqb}
+use Rattle.std.proofs.Math.Logic.{⊎_elim}
 use mathlib.Core.List.Memᴰ
 use mathlib.Core.List.{Memᴰ}
 use mathlib.Core.Option.{Option, some}
@@ -53,23 +54,13 @@ absent m (n ∷ P) e (Memᴰ.tail i) = absent m P (or_parts (eqb m n) (stands m 
 behind : (P : List ℕ) (k m n : ℕ) → StandsBefore m n (P ++ (k ∷ [])) → StandsBefore m n P ⊎ (Memᴰ m P × (n ≡ k))
 behind [] k m n (order.here d i) = elim i [ ]
 behind [] k m n (order.later s) = elim s [ ]
-behind (j ∷ P) k m n (order.here d i) = go (Memᴰ.append_cases P i)
-  where
-    go : Memᴰ n P ⊎ Memᴰ n (k ∷ []) → StandsBefore m n (j ∷ P) ⊎ (Memᴰ m (j ∷ P) × (n ≡ k))
-    go (inl x) = inl (order.here d x)
-    go (inr x) = inr (Memᴰ.head d, Memᴰ.eq_of_singleton x)
-behind (j ∷ P) k m n (order.later s) = go (behind P k m n s)
-  where
-    go : StandsBefore m n P ⊎ (Memᴰ m P × (n ≡ k)) → StandsBefore m n (j ∷ P) ⊎ (Memᴰ m (j ∷ P) × (n ≡ k))
-    go (inl x) = inl (order.later x)
-    go (inr x) = inr (Memᴰ.tail x.0, x.1)
+behind (j ∷ P) k m n (order.here d i) =
+    ⊎_elim (λ x. inl (order.here d x)) (λ x. inr (Memᴰ.head d, Memᴰ.eq_of_singleton x)) (Memᴰ.append_cases P i)
+behind (j ∷ P) k m n (order.later s) = ⊎_elim (λ x. inl (order.later x)) (λ x. inr (Memᴰ.tail x.0, x.1)) (behind P k m n s)
 
 show_distinct : (o : Option Entry) (b : Bool) (k : ℕ) (P : List ℕ) → stands k P ≡ b → Distinct P → Distinct (show_once o b k P)
-show_distinct (some (library_name x θ M)) false k P d h = λ m n s e. go m n e (behind P k m n s)
-  where
-    go : (m n : ℕ) → m ≡ n → StandsBefore m n P ⊎ (Memᴰ m P × (n ≡ k)) → ⊥
-    go m n e (inl x) = h m n x e
-    go m n e (inr x) = absent k P d (Memᴰ.cast (sym (e ∙ x.1)) x.0)
+show_distinct (some (library_name x θ M)) false k P d h = λ m n s e.
+    ⊎_elim (λ x. h m n x e) (λ x. absent k P d (Memᴰ.cast (cc) x.0)) (behind P k m n s)
 show_distinct o b k P d h = h
 
 shown_distinct : (R : List Entry) (v : Value) (P : List ℕ) → Distinct P → Distinct (shown R v P)

@@ -1,5 +1,6 @@
 -- The list of full plays holds exactly the full plays.
-use Rattle.std.proofs.Common.{◌≡◌, ℕ, zero, suc, ◌+◌, ◌<◌, ◌⊎◌, List, [], ◌∷◌, map, refl, inl, inr, arith}
+use Rattle.std.proofs.Common.{◌≡◌, ℕ, zero, suc, ◌+◌, ◌<◌, List, [], ◌∷◌, map, refl, arith}
+use Rattle.std.proofs.Math.Logic.{⊎_elim}
 use mathlib.Core.List.Memᴰ
 use mathlib.Core.List.{Memᴰ}
 use mathlib.Core.Option.{none, some}
@@ -25,22 +26,15 @@ among plays (reply b r ∷ rs) a q trace e s (Memᴰ.tail i) j = Memᴰ.append_r
 -- a play of `after_each` is a reply and a play after it
 apart : (plays : Position → List Played) (rs : List Reply) (trace : List Pass) (e : Ending) (s : ℕ) → Memᴰ (played trace e s) (after_each plays rs) → (a : Pass) × (q : Position) × (rest : List Pass) × Memᴰ (reply a q) rs × (trace ≡ a ∷ rest) × Memᴰ (played rest e s) (plays q)
 apart plays [] trace e s i = elim i [ ]
-apart plays (reply a q ∷ rs) trace e s i = go (Memᴰ.append_cases (map (after a) (plays q)) i) (λ j. apart plays rs trace e s j)
+apart plays (reply a q ∷ rs) trace e s i =
+    ⊎_elim (λ j. let w = Memᴰ.of_map (after a) (plays q) j in first w.0 w.1 w.2)
+    (λ j. let w = apart plays rs trace e s j in (w.0, w.1, w.2, Memᴰ.tail w.3, w.4, w.5)) (Memᴰ.append_cases (map (after a) (plays q)) i)
   where
-    Found : Type 0
-    Found = (b : Pass) × (r : Position) × (rest : List Pass) × Memᴰ (reply b r) (reply a q ∷ rs) × (trace ≡ b ∷ rest) × Memᴰ (played rest e s) (plays r)
-
-    first : (x : Played) → Memᴰ x (plays q) → after a x ≡ played trace e s → Found
+    first : (x : Played) → Memᴰ x (plays q) → after a x ≡ played trace e s → (b : Pass) × (r : Position) × (rest : List Pass) × Memᴰ (reply b r) (reply a q ∷ rs) × (trace ≡ b ∷ rest) × Memᴰ (played rest e s) (plays r)
     first (played rest e' s') j d =
-        let x : trace ≡ a ∷ rest = cc in
         let y : e' ≡ e = cc in
         let z : s' ≡ s = cc in
-        let j' : Memᴰ (played rest e s) (plays q) = rw (y, z) at j in
-        (a, q, rest, Memᴰ.head refl, x, j')
-
-    go : Memᴰ (played trace e s) (map (after a) (plays q)) ⊎ Memᴰ (played trace e s) (after_each plays rs) → (Memᴰ (played trace e s) (after_each plays rs) → (b : Pass) × (r : Position) × (rest : List Pass) × Memᴰ (reply b r) rs × (trace ≡ b ∷ rest) × Memᴰ (played rest e s) (plays r)) → Found
-    go (inl j) more = let w = Memᴰ.of_map (after a) (plays q) j in first w.0 w.1 w.2
-    go (inr j) more = let w = more j in (w.0, w.1, w.2, Memᴰ.tail w.3, w.4, w.5)
+        (a, q, rest, Memᴰ.head refl, cc, rw (y, z) at j)
 
 -- where there is a reply, the plays are those after the replies
 with_reply : (plays : Position → List Played) (t : ℕ) (rs : List Reply) (a : Pass) (q : Position) (x : Played) → Memᴰ (reply a q) rs → Memᴰ x (after_each plays rs) → Memᴰ x (at_turn plays t rs)

@@ -1,5 +1,6 @@
 -- The list of full plays is in order.
-use Rattle.std.proofs.Common.{◌≡◌, ℕ, zero, suc, ◌+◌, ◌<◌, Bool, true, false, ltb, ◌⊎◌, List, [], ◌∷◌, ◌++◌, map, ℤ, sym, refl, ap, ◌∙◌, subst, inl, inr, append_assoc, arith}
+use Rattle.std.proofs.Common.{◌≡◌, ℕ, zero, suc, ◌+◌, ◌<◌, Bool, true, false, ltb, List, [], ◌∷◌, ◌++◌, map, ℤ, sym, refl, ap, ◌∙◌, subst, append_assoc, arith}
+use Rattle.std.proofs.Math.Logic.{⊎_elim}
 use mathlib.Core.List.Memᴰ
 use mathlib.Core.List.{Memᴰ}
 use mathlib.Core.Option.{Option, none, some}
@@ -25,12 +26,8 @@ module _ {X : Type 0} where
   ascending_append R [] ys h k c = k
   ascending_append R (x ∷ xs) ys h k c = (first, ascending_append R xs ys h.1 k (λ a b i j. c a b (Memᴰ.tail i) j))
     where
-      go : (y : X) → Memᴰ y xs ⊎ Memᴰ y ys → R x y
-      go y (inl i) = h.0 y i
-      go y (inr j) = c x y (Memᴰ.head refl) j
-
       first : (y : X) → Memᴰ y (xs ++ ys) → R x y
-      first y i = go y (Memᴰ.append_cases xs i)
+      first y i = ⊎_elim (λ j. h.0 y j) (λ j. c x y (Memᴰ.head refl) j) (Memᴰ.append_cases xs i)
 
   ascending_weaker : (R S : X → X → Type 0) (xs : List X) → ((x y : X) → R x y → S x y) → Ascending R xs → Ascending S xs
   ascending_weaker R S [] f h = tt
@@ -157,11 +154,9 @@ module _ (list : WordList) where
 
         calls_some : (ms : List ℕ) (b : Pass) (r : Position) → Memᴰ (reply b r) (calls G list ms K l μ P) → (n : ℕ) × (v : Value) × Memᴰ n ms × (b ≡ host_call n v)
         calls_some [] b r i = elim i [ ]
-        calls_some (m ∷ ms) b r i = go (Memᴰ.append_cases (calls_of G list (at μ.names m) m K l μ P) i) (λ j. calls_some ms b r j)
-          where
-            go : Memᴰ (reply b r) (calls_of G list (at μ.names m) m K l μ P) ⊎ Memᴰ (reply b r) (calls G list ms K l μ P) → (Memᴰ (reply b r) (calls G list ms K l μ P) → (n : ℕ) × (v : Value) × Memᴰ n ms × (b ≡ host_call n v)) → (n : ℕ) × (v : Value) × Memᴰ n (m ∷ ms) × (b ≡ host_call n v)
-            go (inl j) more = let w = calls_one (at μ.names m) m b r j in (m, w.0, Memᴰ.head refl, w.1)
-            go (inr j) more = let w = more j in (w.0, w.1, Memᴰ.tail w.2, w.3)
+        calls_some (m ∷ ms) b r i =
+            ⊎_elim (λ j. let w = calls_one (at μ.names m) m b r j in (m, w.0, Memᴰ.head refl, w.1)) (λ j. let w = calls_some ms b r j in (w.0, w.1, Memᴰ.tail w.2, w.3))
+            (Memᴰ.append_cases (calls_of G list (at μ.names m) m K l μ P) i)
 
         calls_ascend : (ms : List ℕ) → ((m n : ℕ) → StandsBefore m n ms → StandsBefore m n P) → Ascending ReplyBefore (calls G list ms K l μ P)
         calls_ascend [] sub = tt
@@ -281,11 +276,9 @@ module _ (list : WordList) where
       -- a play after a reply of a list
       after_some : (plays : Position → List Played) (rs : List Reply) (y : Played) → Memᴰ y (after_each plays rs) → (a : Pass) × (q : Position) × (x : Played) × Memᴰ (reply a q) rs × (y ≡ after a x)
       after_some plays [] y i = elim i [ ]
-      after_some plays (reply a q ∷ rs) y i = go (Memᴰ.append_cases (map (after a) (plays q)) i) (λ j. after_some plays rs y j)
-        where
-          go : Memᴰ y (map (after a) (plays q)) ⊎ Memᴰ y (after_each plays rs) → (Memᴰ y (after_each plays rs) → (b : Pass) × (r : Position) × (x : Played) × Memᴰ (reply b r) rs × (y ≡ after b x)) → (b : Pass) × (r : Position) × (x : Played) × Memᴰ (reply b r) (reply a q ∷ rs) × (y ≡ after b x)
-          go (inl j) more = let w = Memᴰ.of_map (after a) (plays q) j in (a, q, w.0, Memᴰ.head refl, sym w.2)
-          go (inr j) more = let w = more j in (w.0, w.1, w.2, Memᴰ.tail w.3, w.4)
+      after_some plays (reply a q ∷ rs) y i =
+          ⊎_elim (λ j. let w = Memᴰ.of_map (after a) (plays q) j in (a, q, w.0, Memᴰ.head refl, sym w.2))
+          (λ j. let w = after_some plays rs y j in (w.0, w.1, w.2, Memᴰ.tail w.3, w.4)) (Memᴰ.append_cases (map (after a) (plays q)) i)
 
       after_moves : (a : Pass) (x : Played) → first_moves a ≡ move_of a ∷ [] → moves_of (after a x) ≡ move_of a ∷ moves_of x
       after_moves a (played x e s) one = moves_first a x ∙ ap (λ z. z ++ host_moves x) one

@@ -1,5 +1,6 @@
 -- Typed positions: each step of the game keeps them typed and adds at most four names, and none is stuck.
-use Rattle.std.proofs.Common.{◌≡◌, ℕ, suc, ◌+◌, ◌*◌, ◌<◌, ◌≤◌, Bool, true, false, ◌⊎◌, List, [], ◌∷◌, ◌++◌, length, sym, refl, ap, ◌∙◌, subst, inl, inr, arith, length-append}
+use Rattle.std.proofs.Common.{◌≡◌, ℕ, suc, ◌+◌, ◌*◌, ◌<◌, ◌≤◌, Bool, true, false, List, [], ◌∷◌, ◌++◌, length, sym, refl, ap, ◌∙◌, subst, inl, inr, arith, length-append}
+use Rattle.std.proofs.Math.Logic.{⊎_elim}
 use mathlib.Core.Option.{Option, none, some}
 use Rattle.std.specs.List.{AllZip}
 use Rattle.std.proofs.str.Laws.{order}
@@ -269,8 +270,4 @@ module _ (G : Game) (V : ℕ → Tree) (Γ : List Tree) (closed : Closed G.meani
   within_goes (host_turn K l μ P) t lt ok = inl (play.turn, t, play.hands_over lt)
 
   pub typed_goes : (p : Position) (t : ℕ) → t ≤ G.bounds.steps → PositionOk V Γ A p → GoesOn G p t
-  typed_goes p t le ok = go (order t G.bounds.steps)
-    where
-      go : (t < G.bounds.steps) ⊎ (G.bounds.steps ≤ t) → GoesOn G p t
-      go (inl lt) = within_goes p t lt ok
-      go (inr ge) = inl (play.cut_by_steps, t, play.out_of_steps (omega arith))
+  typed_goes p t le ok = ⊎_elim (λ lt. within_goes p t lt ok) (λ ge. inl (play.cut_by_steps, t, play.out_of_steps (omega arith))) (order t G.bounds.steps)

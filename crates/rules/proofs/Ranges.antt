@@ -1,5 +1,6 @@
 -- Places in a list of all full plays count the full plays in a range.
 use Rattle.std.proofs.Common.{◌≡◌, ℕ, zero, suc, ◌+◌, ◌-◌, ◌<◌, ◌≤◌, ◌⊎◌, List, [], ◌∷◌, map, take, drop, sym, ap, ◌∙◌, inl, inr, arith, length-drop, length-take}
+use Rattle.std.proofs.Math.Logic.{⊎_elim}
 use mathlib.Core.List.{Memᴰ}
 use mathlib.Core.Option.{Option, none, some}
 use Rattle.std.proofs.str.Laws.{order}
@@ -68,18 +69,14 @@ module _ (G : Game) (list : WordList) (law : Listed G.meaning list) (plays : Lis
 
   -- a play that comes before another stands before it
   pub before_at : (i k : ℕ) (x y : List Move) → at xs i ≡ some x → at xs k ≡ some y → Before G list x y → i < k
-  before_at i k x y d e b = go (order i k)
-    where
-      go : (i < k) ⊎ (k ≤ i) → i < k
-      go (inl lt) = lt
-      go (inr le) = again (order k i)
-        where
-          again : (k < i) ⊎ (i ≤ k) → i < k
-          again (inl lt) = absurd (before_one_way G list law x y b (in_order_at (Before G list) xs up k i y x lt e d))
-          again (inr ge) =
-              let same : i ≡ k = omega arith in
-              let one : x ≡ y = cc in
-              absurd (before_one_way G list law x y b (rw one (rw one at b)))
+  before_at i k x y d e b =
+      ⊎_elim (λ lt. lt)
+      (λ le.
+      ⊎_elim (λ lt. absurd (before_one_way G list law x y b (in_order_at (Before G list) xs up k i y x lt e d)))
+      (λ ge.
+      let same : i ≡ k = omega arith in
+      let one : x ≡ y = cc in
+      absurd (before_one_way G list law x y b (rw one (rw one at b)))) (order k i)) (order i k)
 
   -- the plays from place s up to place j, where s is the first place behind those that the range begins after
   module _ (s j : ℕ) (from : Option (List Move)) (to : List Move) (last : at xs j ≡ some to) (few : s ≤ suc j)

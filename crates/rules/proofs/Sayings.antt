@@ -1,5 +1,6 @@
 -- The host's moves at a position are exactly those of the list.
-use Rattle.std.proofs.Common.{◌≡◌, ℕ, zero, suc, ◌<◌, Bool, true, false, ltb, ◌⊎◌, List, [], ◌∷◌, ◌++◌, length, ℤ, sym, refl, subst, inl, inr, arith, ltb-true, lt-ltb}
+use Rattle.std.proofs.Common.{◌≡◌, ℕ, zero, suc, ◌<◌, Bool, true, false, ltb, List, [], ◌∷◌, ◌++◌, length, ℤ, sym, refl, subst, arith, ltb-true, lt-ltb}
+use Rattle.std.proofs.Math.Logic.{⊎_elim}
 use mathlib.Core.List.Memᴰ
 use mathlib.Core.List.{Memᴰ}
 use mathlib.Core.Option.{Option, some}
@@ -57,14 +58,9 @@ both_in right v w R R' (saying v' R₁ ∷ ss) (Memᴰ.tail i) j = Memᴰ.append
 
 pub in_both : (right : List Entry → List Saying) (u : Value) (R' : List Entry) (ss : List Saying) → Memᴰ (saying u R') (both_parts right ss) → (v : Value) × (w : Value) × (R : List Entry) × Memᴰ (saying v R) ss × Memᴰ (saying w R') (right R) × (u ≡ pair v w)
 in_both right u R' [] i = elim i [ ]
-in_both right u R' (saying v R ∷ ss) i = go (Memᴰ.append_cases (with_left v (right R)) i) (λ j. in_both right u R' ss j)
-  where
-    Found : Type 0
-    Found = (v' : Value) × (w : Value) × (R₁ : List Entry) × Memᴰ (saying v' R₁) (saying v R ∷ ss) × Memᴰ (saying w R') (right R₁) × (u ≡ pair v' w)
-
-    go : Memᴰ (saying u R') (with_left v (right R)) ⊎ Memᴰ (saying u R') (both_parts right ss) → (Memᴰ (saying u R') (both_parts right ss) → (v' : Value) × (w : Value) × (R₁ : List Entry) × Memᴰ (saying v' R₁) ss × Memᴰ (saying w R') (right R₁) × (u ≡ pair v' w)) → Found
-    go (inl j) more = let x = in_left v u R' (right R) j in (v, x.0, R, Memᴰ.head refl, x.1, x.2)
-    go (inr j) more = let x = more j in (x.0, x.1, x.2, Memᴰ.tail x.3, x.4, x.5)
+in_both right u R' (saying v R ∷ ss) i =
+    ⊎_elim (λ j. let x = in_left v u R' (right R) j in (v, x.0, R, Memᴰ.head refl, x.1, x.2))
+    (λ j. let x = in_both right u R' ss j in (x.0, x.1, x.2, Memᴰ.tail x.3, x.4, x.5)) (Memᴰ.append_cases (with_left v (right R)) i)
 
 -- the same with equal ends
 says_as : (A : Meaning) (θ : Tree) (R R' R'' : List Entry) (v w : Value) → v ≡ w → R' ≡ R'' → Says A θ R w R'' → Says A θ R v R'
@@ -139,11 +135,8 @@ module _ (G : Game) (list : WordList) (law : Listed G.meaning list) where
     in_calls : (ms : List ℕ) (a : Pass) (q : Position) → ((m : ℕ) → Memᴰ m ms → Memᴰ m P) → l < G.bounds.insistence → Memᴰ (reply a q) (calls G list ms K l μ P) → G ⊢ host_turn K l μ P ─ some a ⟹ q
     in_calls [] a q sub b i = elim i [ ]
     in_calls (m ∷ ms) a q sub b i =
-        go (Memᴰ.append_cases (calls_of G list (at μ.names m) m K l μ P) i) (λ j. in_calls ms a q (λ n k. sub n (Memᴰ.tail k)) b j)
-      where
-        go : Memᴰ (reply a q) (calls_of G list (at μ.names m) m K l μ P) ⊎ Memᴰ (reply a q) (calls G list ms K l μ P) → (Memᴰ (reply a q) (calls G list ms K l μ P) → G ⊢ host_turn K l μ P ─ some a ⟹ q) → G ⊢ host_turn K l μ P ─ some a ⟹ q
-        go (inl j) more = in_calls_of (at μ.names m) m a q refl (sub m (Memᴰ.head refl)) b j
-        go (inr j) more = more j
+        ⊎_elim (λ j. in_calls_of (at μ.names m) m a q refl (sub m (Memᴰ.head refl)) b j) (λ j. in_calls ms a q (λ n k. sub n (Memᴰ.tail k)) b j)
+        (Memᴰ.append_cases (calls_of G list (at μ.names m) m K l μ P) i)
 
     in_allowed : (b : Bool) → ltb l G.bounds.insistence ≡ b → (a : Pass) (q : Position) → Memᴰ (reply a q) (where_true b (calls G list P K l μ P)) → G ⊢ host_turn K l μ P ─ some a ⟹ q
     in_allowed true e a q i = in_calls P a q (λ m j. j) (ltb-true _ _ e) i
@@ -181,11 +174,9 @@ module _ (G : Game) (list : WordList) (law : Listed G.meaning list) where
 
   -- each reply of the list is a move that the host may make
   pub replies_are : (K : List Pending) (l : ℕ) (μ : Memory) (P : List ℕ) (a : Pass) (q : Position) → Memᴰ (reply a q) (replies G list K l μ P) → G ⊢ host_turn K l μ P ─ some a ⟹ q
-  replies_are K l μ P a q i = go (Memᴰ.append_cases (where_true (ltb l G.bounds.insistence) (calls G list P K l μ P)) i)
-    where
-      go : Memᴰ (reply a q) (where_true (ltb l G.bounds.insistence) (calls G list P K l μ P)) ⊎ Memᴰ (reply a q) (answers G list K μ P) → G ⊢ host_turn K l μ P ─ some a ⟹ q
-      go (inl j) = in_allowed K l μ P _ refl a q j
-      go (inr j) = in_answers K l μ P a q j
+  replies_are K l μ P a q i =
+      ⊎_elim (λ j. in_allowed K l μ P _ refl a q j) (λ j. in_answers K l μ P a q j)
+      (Memᴰ.append_cases (where_true (ltb l G.bounds.insistence) (calls G list P K l μ P)) i)
 
   abbrev FromHost : Position → Pass → Position → Type 0
   FromHost (library_runs K M μ P) a q = Unit {0}

@@ -1,5 +1,6 @@
 -- Texts that pass tests which can be computed are read, and their rows mount.
-use Rattle.std.proofs.Common.{◌≡◌, ℕ, zero, suc, ◌+◌, ◌^◌, ◌<◌, ◌≤◌, Bool, true, ◌&&◌, eqb, ltb, leb, ◌⊎◌, List, [], ◌∷◌, ◌++◌, length, take, replicate, Some, None, Ok, Err, Option, Result, sym, refl, ap, ◌∙◌, inl, inr, append_assoc, append-nil, arith, length-set, ltb-true, eqb-true, leb-true}
+use Rattle.std.proofs.Common.{◌≡◌, ℕ, zero, suc, ◌+◌, ◌^◌, ◌<◌, Bool, true, ◌&&◌, eqb, ltb, leb, List, [], ◌∷◌, ◌++◌, length, take, replicate, Some, None, Ok, Err, Option, Result, sym, refl, ap, ◌∙◌, append_assoc, append-nil, arith, length-set, ltb-true, eqb-true, leb-true}
+use Rattle.std.proofs.Math.Logic.{⊎_elim}
 use lib.Signed.{mag}
 use Rattle.std.specs.List.{slice_get, AllByRecursion}
 use Rattle.std.specs.Option.{is_none}
@@ -126,11 +127,9 @@ all_places (suc n) holds = holds n && all_places n holds
 -- where it holds, the test holds at each place
 all_placed : (n : ℕ) (holds : ℕ → Bool) → all_places n holds ≡ true → (t : ℕ) → t < n → holds t ≡ true
 all_placed zero holds e t lt = absurd (omega arith)
-all_placed (suc n) holds e t lt = go (order t n) (λ l. all_placed n holds (and_parts (holds n) (all_places n holds) e).1 t l)
-  where
-    go : (t < n) ⊎ (n ≤ t) → (t < n → holds t ≡ true) → holds t ≡ true
-    go (inl l) before = before l
-    go (inr g) before = let same : t ≡ n = omega arith in ap holds same ∙ (and_parts (holds n) (all_places n holds) e).0
+all_placed (suc n) holds e t lt =
+    let p = and_parts (holds n) (all_places n holds) e in
+    ⊎_elim (λ l. all_placed n holds p.1 t l) (λ le. let same : t ≡ n = omega arith in ap holds same ∙ p.0) (order t n)
 
 -- the type of a term, where it is found, goes on to what follows
 abbrev found : Result ℕ TypingFault → List ℕ → (ℕ → List ℕ) → List ℕ
@@ -171,11 +170,9 @@ module _ (rows : List Row) (known sets : List ℕ) where
 
   -- where the test holds, the terms are typed so
   typed_tested : typed_test ≡ true → TypedBy rows known
-  typed_tested e t = go (order t (length known))
-    where
-      go : (t < length known) ⊎ (length known ≤ t) → types_term rows (take t known) (slice_get known t) (term_at rows t) ≡ true
-      go (inl lt) = all_placed (length known) (λ u. types_term rows (take u known) (slice_get known u) (term_at rows u)) e t lt
-      go (inr ge) = ap (λ (o : Option ℕ). types_term rows (take t known) o (term_at rows t)) (slice_get_past known t ge)
+  typed_tested e t =
+      ⊎_elim (λ lt. all_placed (length known) (λ u. types_term rows (take u known) (slice_get known u) (term_at rows u)) e t lt)
+      (λ le. ap (λ (o : Option ℕ). types_term rows (take t known) o (term_at rows t)) (slice_get_past known t le)) (order t (length known))
 
   -- the test that each term has the free variables that are known
   abbrev scoped_test : Bool

@@ -1,5 +1,6 @@
 -- Typed terms: weakening, substitution, contexts, and that a closed typed term is a value or has a redex.
 use Rattle.std.proofs.Common.{◌≡◌, ℕ, Bool, true, false, eqb, ◌⊎◌, List, [], ◌∷◌, ℤ, sym, refl, ap, ◌∙◌, inl, inr, eqb-true}
+use Rattle.std.proofs.Math.Logic.{⊎_elim}
 use mathlib.Core.List.{Memᴰ}
 use mathlib.Core.Option.{some}
 use borrow.Author.Tests.{eqb-false}
@@ -69,29 +70,17 @@ module _ (V : ℕ → Tree) (Γ : List Tree) (A : Meaning) where
 
   leaves_more : (x z : ℕ) (Δ Δ' : List ℕ) → Leaves x Δ Δ' → Leaves x (z ∷ Δ) (z ∷ Δ')
   leaves_more x z Δ Δ' s y (Memᴰ.head e) = inr (Memᴰ.head e)
-  leaves_more x z Δ Δ' s y (Memᴰ.tail i) = go (s y i)
-    where
-      go : (y ≡ x) ⊎ Memᴰ y Δ' → (y ≡ x) ⊎ Memᴰ y (z ∷ Δ')
-      go (inl e) = inl e
-      go (inr j) = inr (Memᴰ.tail j)
+  leaves_more x z Δ Δ' s y (Memᴰ.tail i) = ⊎_elim (λ e. inl e) (λ j. inr (Memᴰ.tail j)) (s y i)
 
   -- where the binder is x itself, nothing is replaced below it
   hidden : (x z : ℕ) (Δ Δ' : List ℕ) → z ≡ x → Leaves x Δ Δ' → Within (z ∷ Δ) (z ∷ Δ')
   hidden x z Δ Δ' e s y (Memᴰ.head d) = Memᴰ.head d
-  hidden x z Δ Δ' e s y (Memᴰ.tail i) = go (s y i)
-    where
-      go : (y ≡ x) ⊎ Memᴰ y Δ' → Memᴰ y (z ∷ Δ')
-      go (inl d) = Memᴰ.head (cc)
-      go (inr j) = Memᴰ.tail j
+  hidden x z Δ Δ' e s y (Memᴰ.tail i) = ⊎_elim (λ d. Memᴰ.head (cc)) (λ j. Memᴰ.tail j) (s y i)
 
   module _ (Σ : List Tree) (v : Value) (x : ℕ) (hv : Typed Σ [] ⌊ v ⌋ (V x)) where
     at_var : (Δ Δ' : List ℕ) → Leaves x Δ Δ' → (y : ℕ) (θ : Tree) (b : Bool) → eqb y x ≡ b → θ ≡ V y → Memᴰ y Δ → Typed Σ Δ' (choose b ⌊ v ⌋ (var y)) θ
     at_var Δ Δ' s y θ true e d i = closed_anywhere Σ Δ' ⌊ v ⌋ θ (rw (ap V (sym (eqb-true y x e)) ∙ sym d) at hv)
-    at_var Δ Δ' s y θ false e d i = go (s y i)
-      where
-        go : (y ≡ x) ⊎ Memᴰ y Δ' → (θ ≡ V y) × Memᴰ y Δ'
-        go (inl f) = absurd (eqb-false y x e f)
-        go (inr j) = (d, j)
+    at_var Δ Δ' s y θ false e d i = ⊎_elim (λ f. absurd (eqb-false y x e f)) (λ j. (d, j)) (s y i)
 
     -- below a binder z
     below : (Δ Δ' : List ℕ) → Leaves x Δ Δ' → (z : ℕ) (b : Bool) → eqb z x ≡ b → (M N : Term) (θ : Tree) → Typed Σ (z ∷ Δ) M θ → Typed Σ (z ∷ Δ') N θ → Typed Σ (z ∷ Δ') (choose b M N) θ

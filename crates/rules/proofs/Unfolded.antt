@@ -1,5 +1,6 @@
 -- The terms of a mounted library, unfolded into trees, are typed.
-use Rattle.std.proofs.Common.{◌≡◌, ℕ, zero, suc, ◌+◌, ◌<◌, ◌≤◌, Bool, true, false, eqb, ◌⊎◌, List, [], ◌∷◌, ◌++◌, length, get_or, take, ℤ, Some, None, sym, refl, ap, ◌∙◌, subst, inl, inr, append_assoc, append-nil, arith, length-append, eqb-true}
+use Rattle.std.proofs.Common.{◌≡◌, ℕ, zero, suc, ◌+◌, ◌<◌, Bool, true, false, eqb, List, [], ◌∷◌, ◌++◌, length, get_or, take, ℤ, Some, None, sym, refl, ap, ◌∙◌, subst, append_assoc, append-nil, arith, length-append, eqb-true}
+use Rattle.std.proofs.Math.Logic.{⊎_elim}
 use mathlib.Core.List.{Memᴰ}
 use borrow.Author.Tests.{eqb-false}
 use Rattle.std.specs.List.{slice_get, AllByRecursion}
@@ -47,11 +48,10 @@ good_from b (r ∷ rs) h = (here, good_from (b ++ (r ∷ [])) rs (subst Faultles
 -- what cannot fail holds, for references
 all_stable : (b : List Row) (ps : List (Section × ℕ)) → ((AllByRecursion (λ p. p.1 < count p.0 b) ps → ⊥) → ⊥) → AllByRecursion (λ p. p.1 < count p.0 b) ps
 all_stable b [] h = tt
-all_stable b (p ∷ ps) h = go (all_stable b ps (λ no. h (λ both. no both.1))) (order p.1 (count p.0 b))
-  where
-    go : AllByRecursion (λ q. q.1 < count q.0 b) ps → (p.1 < count p.0 b) ⊎ (count p.0 b ≤ p.1) → AllByRecursion (λ q. q.1 < count q.0 b) (p ∷ ps)
-    go rest (inl lt) = (lt, rest)
-    go rest (inr ge) = absurd (h (λ both. omega arith))
+all_stable b (p ∷ ps) h = (
+  ⊎_elim (λ lt. lt) (λ le. absurd (h (λ both. omega arith))) (order p.1 (count p.0 b)),
+  all_stable b ps (λ no. h (λ both. no both.1)),
+)
 
 refers_back : (b : List Row) (r : Row) → NoneOf (RowFault true b r) → RefersBack b r
 refers_back b r h = all_stable b (references r) (h Reference)

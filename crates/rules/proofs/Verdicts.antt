@@ -1,5 +1,6 @@
 -- What trying the full plays in order comes to is how the game comes out.
 use Rattle.std.proofs.Common.{◌≡◌, ℕ, zero, suc, ◌+◌, ◌<◌, Bool, true, false, ◌||◌, ◌⊎◌, List, [], ◌∷◌, ◌++◌, map, length, take, MatchBool, sym, refl, ap, ◌∙◌, subst, inl, inr, arith}
+use Rattle.std.proofs.Math.Logic.{⊎_elim}
 use Rattle.std.proofs.Math.Bool.{or-false}
 use Rattle.std.proofs.Math.Seq.{take-append-add}
 use Rattle.std.proofs.lemmas.List.{take-map}
@@ -271,11 +272,7 @@ module _ (G : Game) (list : WordList) (law : Listed G.meaning list) (plays : Lis
 
     -- a play up to it is among the plays
     part_inside : (x : Played) → Memᴰ x part → Memᴰ x plays
-    part_inside x i = go (Memᴰ.append_cases h.before i)
-      where
-        go : Memᴰ x h.before ⊎ Memᴰ x (played trace failed steps ∷ []) → Memᴰ x plays
-        go (inl k) = inside x k
-        go (inr k) = Memᴰ.cast (Memᴰ.eq_of_singleton k) here
+    part_inside x i = ⊎_elim (λ k. inside x k) (λ k. Memᴰ.cast (Memᴰ.eq_of_singleton k) here) (Memᴰ.append_cases h.before i)
 
     -- so the game is lost by it
     lost_so : Lost G list trace steps n d s
