@@ -97,7 +97,7 @@ module _ (G : Game) where
     ahead_apart P m n x (order.called_with {vs = vs} {ws = ws} d h) e = words_apart vs ws h (cc)
     ahead_apart P m n x (order.answered_with {vs = vs} {ws = ws} d h) e = words_apart vs ws h (cc)
 
-    before_apart : (x y : List Move) → Before G list x y → x ≡ y → ⊥
+    pub before_apart : (x y : List Move) → Before G list x y → x ≡ y → ⊥
     before_apart x y b e =
         ahead_apart b.shown b.first b.second (run_distinct _ _ _ _ _ b.run (public_distinct 0 G.rows)) b.ahead
         (let d = append_cancel_left (host_moves b.trace) (b.first ∷ b.after_first) (b.second ∷ b.after_second) (cc) in cc)

@@ -11,7 +11,7 @@ use Rattle.rules.specs.Plays.{Move}
 use Rattle.rules.specs.Enumeration.{Played, moves_of}
 use Rattle.rules.specs.Order.{Before, Ascending, WithoutRepetition, Counted}
 use Rattle.rules.specs.Ranges.{After, FullInRange, AllPlays, FullPlaysAreCounted}
-use Rattle.rules.proofs.Distinct.{no_repetition, listed_play, play_listed, counted_plays}
+use Rattle.rules.proofs.Distinct.{before_apart, no_repetition, listed_play, play_listed, counted_plays}
 use Rattle.rules.proofs.Places.{place, there, inside}
 use Rattle.rules.proofs.OneWay.{before_one_way}
 
@@ -75,8 +75,7 @@ module _ (G : Game) (list : WordList) (law : Listed G.meaning list) (plays : Lis
       ⊎_elim (λ lt. absurd (before_one_way G list law x y b (in_order_at (Before G list) xs up k i y x lt e d)))
       (λ ge.
       let same : i ≡ k = omega arith in
-      let one : x ≡ y = cc in
-      absurd (before_one_way G list law x y b (rw one (rw one at b)))) (order k i)) (order i k)
+      absurd (before_apart G list law x y b (cc))) (order k i)) (order i k)
 
   -- the plays from place s up to place j, where s is the first place behind those that the range begins after
   module _ (s j : ℕ) (from : Option (List Move)) (to : List Move) (last : at xs j ≡ some to) (few : s ≤ suc j)
@@ -96,12 +95,9 @@ module _ (G : Game) (list : WordList) (law : Listed G.meaning list) (plays : Lis
         there moves part (w.0 - s) (at_drop (take (suc j) xs) s (w.0 - s) ∙ ap (at (take (suc j) xs)) e ∙ take_at xs (suc j) w.0 moves (omega arith) w.1)
       where
         up_to : (k : ℕ) → at xs k ≡ some moves → (moves ≡ to) ⊎ Before G list moves to → k ≤ j
-        up_to k e (inl same) = go (order j k)
-          where
-            go : (j < k) ⊎ (k ≤ j) → k ≤ j
-            go (inl lt) = let b = in_order_at (Before G list) xs up j k to moves lt last e in
-                absurd (before_one_way G list law to moves b (rw same (rw same at b)))
-            go (inr le) = le
+        up_to k e (inl same) =
+            ⊎_elim (λ lt. let b = in_order_at (Before G list) xs up j k to moves lt last e in absurd (before_apart G list law to moves b (sym same)))
+            (λ le. le) (order j k)
         up_to k e (inr b) = let lt = before_at k j moves to e last b in omega arith
 
     -- each of them is a full play in the range
