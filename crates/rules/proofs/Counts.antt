@@ -1,5 +1,5 @@
 -- How many host moves a play has; a losing play is full.
-use Rattle.std.proofs.Common.{◌≡◌, ℕ, suc, ◌+◌, ◌≤◌, List, ◌∷◌, length, ap, arith}
+use Rattle.std.proofs.Common.{ℕ, suc, ◌+◌, ◌≤◌, List, ◌∷◌, length, ap, arith}
 use Rattle.rules.specs.Game.{Game, Position, Pass, host_call, host_answer, library_call, library_answer}
 use Rattle.rules.specs.Plays.{Run, Ending, failed, turn, Move, host_moves, Play, LosingPlay, FullPlay}
 use Rattle.rules.specs.Plays as play
@@ -37,6 +37,6 @@ losing_is_full G moves x = record {
   trace = x.play.trace;
   ending = x.play.ending;
   steps = x.play.steps;
-  full = record { play = x.play.play; no_more = λ d. let e = x.lost in let z : ◌≡◌ {A = ℕ} 0 1 = cc in absurd (omega arith) };
+  full = record { play = x.play.play; no_more = λ d. cc };
   moved = x.play.moved;
 }

@@ -1,6 +1,7 @@
 -- A play's moves determine the play.
-use Rattle.std.proofs.Common.{◌≡◌, ℕ, suc, ◌<◌, List, [], ◌∷◌, ◌++◌, length, ℤ, sym, refl, ap, ◌∙◌, subst, append_assoc, arith}
+use Rattle.std.proofs.Common.{◌≡◌, ℕ, suc, ◌<◌, true, List, [], ◌∷◌, ◌++◌, length, ℤ, sym, refl, ap, ◌∙◌, append_assoc, arith}
 use mathlib.Core.Option.{Option, none, some}
+use Rattle.std.proofs.lemmas.List.{append_cancel_left}
 use Rattle.arithmetic.specs.Meaning.{Meaning}
 use Rattle.rows.specs.Types.{Tree, unit as unit_type, int as int_type, pair as pair_type, fun as function_type}
 use Rattle.rules.specs.Terms.{Term, Value, Context, plug, ⌊◌⌋, app, meth, unit, word, name, pair}
@@ -16,44 +17,37 @@ use Rattle.rules.proofs.Nexts.{NextIs, step_next, fails_next, deep_next}
 -- what a value that the host says at a type is
 abbrev pub Said : Meaning → Tree → List Entry → Value → List Entry → Type 0
 Said A unit_type R v R' = (v ≡ unit) × (R' ≡ R)
-Said A int_type R v R' = (w : ℤ) × (v ≡ word w) × (R' ≡ R)
+Said A int_type R v R' = (w : ℤ) × (A.may_say w ≡ true) × (v ≡ word w) × (R' ≡ R)
 Said A (pair_type θ θ') R v R' = (a : Value) × (b : Value) × (R₁ : List Entry) × Says A θ R a R₁ × Says A θ' R₁ b R' × (v ≡ pair a b)
 Said A (function_type θ θ') R v R' = (v ≡ name (length R)) × (R' ≡ R ++ (host_name θ θ' ∷ []))
 
 pub said : (A : Meaning) (θ : Tree) (R : List Entry) (v : Value) (R' : List Entry) → Says A θ R v R' → Said A θ R v R'
 said A θ R v R' rule.says_unit = (refl, refl)
-said A θ R v R' (rule.says_word w h) = (w, refl, refl)
+said A θ R v R' (rule.says_word w h) = (w, h, refl, refl)
 said A θ R v R' (rule.says_pair {R' = R₁} {v = a} {w = b} h k) = (a, b, R₁, h, k, refl)
 said A θ R v R' rule.says_function = (refl, refl)
 
+-- what is written of a value's leaves, one after another, tells the value at a type, where it tells the words that may be said
+module _ {W : Type 0} (A : Meaning) (written : Value → List W) (pairs : (v w : Value) → written (pair v w) ≡ written v ++ written w)
+    (word_told : (i j : ℤ) (x y : List W) → A.may_say i ≡ true → A.may_say j ≡ true → written (word i) ++ x ≡ written (word j) ++ y → i ≡ j) where
+  same_rest : (v w : Value) (x y : List W) → v ≡ w → written v ++ x ≡ written w ++ y → x ≡ y
+  same_rest v w x y same e = append_cancel_left (written v) x y (cc)
+
+  pub value_told : (θ : Tree) (R : List Entry) (v w : Value) (R' R'' : List Entry) (x y : List W) → Said A θ R v R' → Said A θ R w R'' → written v ++ x ≡ written w ++ y → (v ≡ w) × (R' ≡ R'') × (x ≡ y)
+  value_told int_type R v w R' R'' x y h k e =
+      let i = word_told h.0 k.0 x y h.1 k.1 (rw (h.2, k.2) at e) in
+      (cc, cc, same_rest v w x y (cc) e)
+  value_told (pair_type θ θ') R v w R' R'' x y h k e =
+      let d = simp append_assoc at (rw (h.5, k.5, pairs h.0 h.1, pairs k.0 k.1) at e) in
+      let first = value_told θ R h.0 k.0 h.2 k.2 _ _ (said A θ R _ _ h.3) (said A θ R _ _ k.3) d in
+      let right : Says A θ' h.2 k.1 R'' = rw (← first.1) at k.4 in
+      let second = value_told θ' h.2 h.1 k.1 R' R'' x y (said A θ' h.2 _ _ h.4) (said A θ' h.2 _ _ right) first.2 in
+      (cc, second.1, second.2)
+  value_told θ R v w R' R'' x y h k e = (cc, cc, same_rest v w x y (cc) e)
+
 -- the words that begin a list tell the value at a type
 words_tell : (A : Meaning) (θ : Tree) (R : List Entry) (v w : Value) (R' R'' : List Entry) (x y : List ℤ) → Said A θ R v R' → Said A θ R w R'' → words v ++ x ≡ words w ++ y → (v ≡ w) × (R' ≡ R'') × (x ≡ y)
-words_tell A unit_type R v w R' R'' x y h k e =
-    let a = h.0 in
-    let b = k.0 in
-    let d : words unit ++ x ≡ words unit ++ y = ap (λ z. words z ++ x) (sym a) ∙ e ∙ ap (λ z. words z ++ y) b in
-    (a ∙ sym b, h.1 ∙ sym k.1, (cc))
-words_tell A int_type R v w R' R'' x y h k e =
-    let a = h.1 in
-    let b = k.1 in
-    let d : h.0 ∷ x ≡ k.0 ∷ y = ap (λ z. words z ++ x) (sym a) ∙ e ∙ ap (λ z. words z ++ y) b in
-    let s : h.0 ≡ k.0 = cc in
-    (a ∙ ap word s ∙ sym b, h.2 ∙ sym k.2, (cc))
-words_tell A (pair_type θ θ') R v w R' R'' x y h k e =
-    let d : words h.0 ++ (words h.1 ++ x) ≡ words k.0 ++ (words k.1 ++ y) =
-    sym (append_assoc (words h.0) (words h.1) x) ∙ ap (λ z. words z ++ x) (sym h.5) ∙ e ∙ ap (λ z. words z ++ y) k.5 ∙ append_assoc (words k.0) (words k.1) y
-    in
-    let first = words_tell A θ R h.0 k.0 h.2 k.2 _ _ (said A θ R _ _ h.3) (said A θ R _ _ k.3) d in
-    let right : Says A θ' h.2 k.1 R'' = subst (λ (z : List Entry). Says A θ' z k.1 R'') (sym first.1) k.4 in
-    let second = words_tell A θ' h.2 h.1 k.1 R' R'' x y (said A θ' h.2 _ _ h.4) (said A θ' h.2 _ _ right) first.2 in
-    let p = first.0 in
-    let q = second.0 in
-    (h.5 ∙ ap (λ z. pair z h.1) p ∙ ap (pair k.0) q ∙ sym k.5, second.1, second.2)
-words_tell A (function_type θ θ') R v w R' R'' x y h k e =
-    let a = h.0 in
-    let b = k.0 in
-    let d : words (name (length R)) ++ x ≡ words (name (length R)) ++ y = ap (λ z. words z ++ x) (sym a) ∙ e ∙ ap (λ z. words z ++ y) b in
-    (a ∙ sym b, h.1 ∙ sym k.1, (cc))
+words_tell A = value_told A words (λ v w. refl) (λ i j x y h k e. cc)
 
 -- a host move as a pass
 abbrev pub first_moves : Pass → List Move
@@ -96,11 +90,9 @@ module _ (G : Game) where
   AtHost (host_turn K l μ P) b q = (a : Pass) × (b ≡ some a) × HostStep K l μ P a q
 
   pub host_step : (p q : Position) (b : Option Pass) → G ⊢ p ─ b ⟹ q → AtHost p b q
-  host_step p q b (rule.internal h d) = tt
-  host_step p q b (rule.library_calls E m v θ θ' h) = tt
-  host_step p q b (rule.library_answers m l v) = tt
   host_step p q b (rule.host_calls m x l θ M v R i lt h s) = (host_call m v, refl, calling (m, x, θ, M, v, R, h, s, refl, refl))
   host_step p q b (rule.host_answers m l E θ θ' v R {K} h s) = (host_answer m v, refl, answering (m, E, θ, θ', v, R, K, h, s, refl, refl, refl))
+  host_step p q b h = tt
 
   -- the host's turn has a host move at each step
   one_move : (K : List Pending) (l : ℕ) (μ : Memory) (P : List ℕ) (a : Pass) (q : Position) → HostStep K l μ P a q → (mv : Move) × (first_moves a ≡ mv ∷ [])
@@ -109,88 +101,64 @@ module _ (G : Game) where
 
   same_call : (K : List Pending) (l : ℕ) (μ : Memory) (P : List ℕ) (a b : Pass) (q r : Position) → CallStep K l μ P a q → CallStep K l μ P b r → first_moves a ≡ first_moves b → (a ≡ b) × (q ≡ r)
   same_call K l μ P a b q r c d e =
-      let is : first_moves (host_call c.0 c.4) ≡ first_moves (host_call d.0 d.4) = ap first_moves (sym c.8) ∙ e ∙ ap first_moves d.8 in
       let m : c.0 ≡ d.0 = cc in
       let ws : four (words c.4) ≡ four (words d.4) = cc in
-      let entry : some (library_name c.1 c.2 c.3) ≡ some (library_name d.1 d.2 d.3) = sym c.6 ∙ ap (λ n. at μ.names n) m ∙ d.6 in
       let θ : c.2 ≡ d.2 = cc in
-      let says : Says G.meaning c.2 μ.names d.4 d.5 = subst (λ (z : Tree). Says G.meaning z μ.names d.4 d.5) (sym θ) d.7 in
+      let says : Says G.meaning c.2 μ.names d.4 d.5 = rw (← θ) at d.7 in
       let t = words_tell G.meaning c.2 μ.names c.4 d.4 c.5 d.5 _ _ (said _ _ _ _ _ c.7) (said _ _ _ _ _ says) ws in
-      let v = t.0 in
       let R = t.1 in
-      let to : library_runs (host_waits c.0 (suc l) ∷ K) (app (meth c.0) ⌊ c.4 ⌋) (with_names c.5 μ) P ≡ library_runs (host_waits d.0 (suc l) ∷ K) (app (meth d.0) ⌊ d.4 ⌋) (with_names d.5 μ) P =
-      ap (λ n. library_runs (host_waits n (suc l) ∷ K) (app (meth n) ⌊ c.4 ⌋) (with_names c.5 μ) P) m
-      ∙ ap (λ z. library_runs (host_waits d.0 (suc l) ∷ K) (app (meth d.0) ⌊ z ⌋) (with_names c.5 μ) P) v
-      ∙ ap (λ z. library_runs (host_waits d.0 (suc l) ∷ K) (app (meth d.0) ⌊ d.4 ⌋) (with_names z μ) P) R
-      in
-      (c.8 ∙ ap (λ n. host_call n c.4) m ∙ ap (host_call d.0) v ∙ sym d.8, c.9 ∙ to ∙ sym d.9)
+      (cc, cc)
 
   same_answer : (K : List Pending) (l : ℕ) (μ : Memory) (P : List ℕ) (a b : Pass) (q r : Position) → AnswerStep K l μ P a q → AnswerStep K l μ P b r → first_moves a ≡ first_moves b → (a ≡ b) × (q ≡ r)
   same_answer K l μ P a b q r c d e =
-      let is : first_moves (host_answer c.0 c.4) ≡ first_moves (host_answer d.0 d.4) = ap first_moves (sym c.10) ∙ e ∙ ap first_moves d.10 in
       let m : c.0 ≡ d.0 = cc in
       let ws : four (words c.4) ≡ four (words d.4) = cc in
-      let top : library_waits c.0 c.1 ∷ c.6 ≡ library_waits d.0 d.1 ∷ d.6 = sym c.9 ∙ d.9 in
-      let E : c.1 ≡ d.1 = cc in
       let L : c.6 ≡ d.6 = cc in
-      let entry : some (host_name c.2 c.3) ≡ some (host_name d.2 d.3) = sym c.7 ∙ ap (λ n. at μ.names n) m ∙ d.7 in
       let θ : c.3 ≡ d.3 = cc in
-      let says : Says G.meaning c.3 μ.names d.4 d.5 = subst (λ (z : Tree). Says G.meaning z μ.names d.4 d.5) (sym θ) d.8 in
+      let says : Says G.meaning c.3 μ.names d.4 d.5 = rw (← θ) at d.8 in
       let t = words_tell G.meaning c.3 μ.names c.4 d.4 c.5 d.5 _ _ (said _ _ _ _ _ c.8) (said _ _ _ _ _ says) ws in
-      let v = t.0 in
       let R = t.1 in
-      let to : library_runs c.6 (plug c.1 ⌊ c.4 ⌋) (with_names c.5 μ) P ≡ library_runs d.6 (plug d.1 ⌊ d.4 ⌋) (with_names d.5 μ) P =
-      ap (λ z. library_runs z (plug c.1 ⌊ c.4 ⌋) (with_names c.5 μ) P) L
-      ∙ ap (λ z. library_runs d.6 (plug z ⌊ c.4 ⌋) (with_names c.5 μ) P) E
-      ∙ ap (λ z. library_runs d.6 (plug d.1 ⌊ z ⌋) (with_names c.5 μ) P) v
-      ∙ ap (λ z. library_runs d.6 (plug d.1 ⌊ d.4 ⌋) (with_names z μ) P) R
-      in
-      (c.10 ∙ ap (λ n. host_answer n c.4) m ∙ ap (host_answer d.0) v ∙ sym d.10, c.11 ∙ to ∙ sym d.11)
-
-  not_both : (K : List Pending) (l : ℕ) (μ : Memory) (P : List ℕ) (a b : Pass) (q r : Position) → CallStep K l μ P a q → AnswerStep K l μ P b r → first_moves a ≡ first_moves b → ⊥
-  not_both K l μ P a b q r c d e =
-      let is : first_moves (host_call c.0 c.4) ≡ first_moves (host_answer d.0 d.4) = ap first_moves (sym c.8) ∙ e ∙ ap first_moves d.10 in
-      let z : ◌≡◌ {A = ℕ} 0 1 = cc in
-      omega arith
+      (cc, cc)
 
   same_step : (K : List Pending) (l : ℕ) (μ : Memory) (P : List ℕ) (a b : Pass) (q r : Position) → HostStep K l μ P a q → HostStep K l μ P b r → first_moves a ≡ first_moves b → (a ≡ b) × (q ≡ r)
   same_step K l μ P a b q r (calling c) (calling d) e = same_call K l μ P a b q r c d e
-  same_step K l μ P a b q r (calling c) (answering d) e = absurd (not_both K l μ P a b q r c d e)
-  same_step K l μ P a b q r (answering c) (calling d) e = absurd (not_both K l μ P b a r q d c (sym e))
+  same_step K l μ P a b q r (calling c) (answering d) e = cc
+  same_step K l μ P a b q r (answering c) (calling d) e = cc
   same_step K l μ P a b q r (answering c) (answering d) e = same_answer K l μ P a b q r c d e
 
   -- two passes from a position that make the same host moves, with what follows, are the same
   pub one_pass : (p q r : Position) (a b : Pass) (x y : List Pass) → G ⊢ p ─ some a ⟹ q → G ⊢ p ─ some b ⟹ r → host_moves (a ∷ x) ≡ host_moves (b ∷ y) → (a ≡ b) × (q ≡ r)
   one_pass (library_runs K M μ P) q r a b x y h k e =
-      let s : hands a q ≡ hands b r = sym (step_next G (library_runs K M μ P) q (some a) h) ∙ step_next G (library_runs K M μ P) r (some b) k in
-      ((cc), (cc))
+      let s = step_next G (library_runs K M μ P) q (some a) h in
+      let s' = step_next G (library_runs K M μ P) r (some b) k in
+      (cc, cc)
   one_pass (host_turn K l μ P) q r a b x y h k e =
       let c = host_step (host_turn K l μ P) q (some a) h in
       let d = host_step (host_turn K l μ P) r (some b) k in
-      let i : c.0 ≡ a = (let s = c.1 in cc) in
-      let j : d.0 ≡ b = (let s = d.1 in cc) in
-      let c' : HostStep K l μ P a q = subst (λ (z : Pass). HostStep K l μ P z q) i c.2 in
-      let d' : HostStep K l μ P b r = subst (λ (z : Pass). HostStep K l μ P z r) j d.2 in
+      let i : c.0 ≡ a = cc in
+      let j : d.0 ≡ b = cc in
+      let c' : HostStep K l μ P a q = rw i at c.2 in
+      let d' : HostStep K l μ P b r = rw j at d.2 in
       let v = one_move K l μ P a q c' in
       let w = one_move K l μ P b r d' in
       let all : v.0 ∷ host_moves x ≡ w.0 ∷ host_moves y =
       ap (λ z. z ++ host_moves x) (sym v.1) ∙ sym (moves_first a x) ∙ e ∙ moves_first b y ∙ ap (λ z. z ++ host_moves y) w.1
       in
-      let one : v.0 ≡ w.0 = cc in
-      same_step K l μ P a b q r c' d' (v.1 ∙ ap (λ z. z ∷ []) one ∙ sym w.1)
+      same_step K l μ P a b q r c' d' (cc)
 
   -- a step inside the library is the only one
   pub one_inside : (p q r : Position) → G ⊢ p ─ none ⟹ q → G ⊢ p ─ none ⟹ r → q ≡ r
   one_inside (library_runs K M μ P) q r h k =
-      let s : goes_on q ≡ goes_on r = sym (step_next G (library_runs K M μ P) q none h) ∙ step_next G (library_runs K M μ P) r none k in
+      let s = step_next G (library_runs K M μ P) q none h in
+      let s' = step_next G (library_runs K M μ P) r none k in
       cc
   one_inside (host_turn K l μ P) q r h k = elim h [ ]
 
   pub inside_no_pass : (p q r : Position) (a : Pass) → G ⊢ p ─ none ⟹ q → G ⊢ p ─ some a ⟹ r → ⊥
   inside_no_pass (library_runs K M μ P) q r a h k =
-      let s : goes_on q ≡ hands a r = sym (step_next G (library_runs K M μ P) q none h) ∙ step_next G (library_runs K M μ P) r (some a) k in
-      let z : ◌≡◌ {A = ℕ} 0 1 = cc in
-      omega arith
+      let s = step_next G (library_runs K M μ P) q none h in
+      let s' = step_next G (library_runs K M μ P) r (some a) k in
+      cc
   inside_no_pass (host_turn K l μ P) q r a h k = elim h [ ]
 
   -- what is over goes on neither inside nor by a pass of the library
@@ -204,25 +172,24 @@ module _ (G : Game) where
 
   pub ended_no_inside : (p q : Position) (t : ℕ) (e : Ending) (s : ℕ) → Ends G p t e s → t < G.bounds.steps → G ⊢ p ─ none ⟹ q → ⊥
   ended_no_inside p q t e s (play.out_of_steps d) lt h = omega arith
-  ended_no_inside p q t e s (play.fails _ f) lt h = let x = fails_over p (goes_on q) f (step_next G p q none h) in let z : ◌≡◌ {A = ℕ} 0 1 = cc in omega arith
-  ended_no_inside p q t e s (play.too_deep _ f) lt h = let x = deep_over p (goes_on q) f (step_next G p q none h) in let z : ◌≡◌ {A = ℕ} 0 1 = cc in omega arith
+  ended_no_inside p q t e s (play.fails _ f) lt h = let x = fails_over p (goes_on q) f (step_next G p q none h) in cc
+  ended_no_inside p q t e s (play.too_deep _ f) lt h = let x = deep_over p (goes_on q) f (step_next G p q none h) in cc
   ended_no_inside p q t e s (play.hands_over _) lt h = elim h [ ]
 
   -- a pass at the host's turn makes a host move
   pub pass_moves : (K : List Pending) (l : ℕ) (μ : Memory) (P : List ℕ) (q : Position) (a : Pass) (x : List Pass) → G ⊢ host_turn K l μ P ─ some a ⟹ q → [] ≡ host_moves (a ∷ x) → ⊥
   pass_moves K l μ P q a x h none_made =
       let c = host_step (host_turn K l μ P) q (some a) h in
-      let i : c.0 ≡ a = (let d = c.1 in cc) in
+      let i : c.0 ≡ a = cc in
       let v = one_move K l μ P c.0 q c.2 in
       let all : [] ≡ v.0 ∷ host_moves x = none_made ∙ moves_first a x ∙ ap (λ y. first_moves y ++ host_moves x) (sym i) ∙ ap (λ y. y ++ host_moves x) v.1 in
-      let z : ◌≡◌ {A = ℕ} 0 1 = cc in
-      omega arith
+      cc
 
   -- from where a play ends only a host move leads on
   ended_pass : (p q : Position) (t : ℕ) (e : Ending) (s : ℕ) (a : Pass) (x : List Pass) → Ends G p t e s → t < G.bounds.steps → G ⊢ p ─ some a ⟹ q → [] ≡ host_moves (a ∷ x) → ⊥
   ended_pass p q t e s a x (play.out_of_steps d) lt h none_made = omega arith
-  ended_pass p q t e s a x (play.fails _ f) lt h none_made = let y = fails_over p (hands a q) f (step_next G p q (some a) h) in let z : ◌≡◌ {A = ℕ} 0 1 = cc in omega arith
-  ended_pass p q t e s a x (play.too_deep _ f) lt h none_made = let y = deep_over p (hands a q) f (step_next G p q (some a) h) in let z : ◌≡◌ {A = ℕ} 0 1 = cc in omega arith
+  ended_pass p q t e s a x (play.fails _ f) lt h none_made = let y = fails_over p (hands a q) f (step_next G p q (some a) h) in cc
+  ended_pass p q t e s a x (play.too_deep _ f) lt h none_made = let y = deep_over p (hands a q) f (step_next G p q (some a) h) in cc
   ended_pass p q t e s a x (play.hands_over {K} {l} {t = u} {μ} {P} _) lt h none_made = pass_moves K l μ P q a x h none_made
 
   -- a play ends in one way
@@ -234,12 +201,12 @@ module _ (G : Game) where
   ends_same p t e e' s s' (play.fails lt f) (play.out_of_steps d) = absurd (omega arith)
   ends_same p t e e' s s' (play.fails lt f) (play.fails lt' f') = (refl, refl)
   ends_same (library_runs K M μ P) t e e' s s' (play.fails lt f) (play.too_deep lt' f') =
-      let y = deep_over (library_runs K M μ P) fails f' (fails_next G (library_runs K M μ P) f) in let z : ◌≡◌ {A = ℕ} 0 1 = cc in absurd (omega arith)
+      let y = deep_over (library_runs K M μ P) fails f' (fails_next G (library_runs K M μ P) f) in cc
   ends_same (host_turn K l μ P) t e e' s s' (play.fails lt f) (play.too_deep lt' f') = elim f [ ]
   ends_same p t e e' s s' (play.fails lt f) (play.hands_over lt') = elim f [ ]
   ends_same p t e e' s s' (play.too_deep lt f) (play.out_of_steps d) = absurd (omega arith)
   ends_same (library_runs K M μ P) t e e' s s' (play.too_deep lt f) (play.fails lt' f') =
-      let y = deep_over (library_runs K M μ P) fails f (fails_next G (library_runs K M μ P) f') in let z : ◌≡◌ {A = ℕ} 0 1 = cc in absurd (omega arith)
+      let y = deep_over (library_runs K M μ P) fails f (fails_next G (library_runs K M μ P) f') in cc
   ends_same (host_turn K l μ P) t e e' s s' (play.too_deep lt f) (play.fails lt' f') = elim f [ ]
   ends_same p t e e' s s' (play.too_deep lt f) (play.too_deep lt' f') = (refl, refl)
   ends_same p t e e' s s' (play.too_deep lt f) (play.hands_over lt') = elim f [ ]
@@ -258,17 +225,17 @@ module _ (G : Game) where
   alike p q q' t u u' x x' e e' s s' play.stays h (play.passes {q = r} {a = a} {trace = y} lt g run) k d = absurd (ended_pass p r t e s a y h lt g d)
   alike p q q' t u u' x x' e e' s s' (play.inside {q = r} lt g run) h play.stays k d = absurd (ended_no_inside p r t e' s' k lt g)
   alike p q q' t u u' x x' e e' s s' (play.inside {q = r} lt g run) h (play.inside {q = r'} lt' g' run') k d =
-      alike r q q' (suc t) u u' x x' e e' s s' run h (subst (λ (z : Position). Run G z (suc t) x' q' u') (one_inside p r' r g' g) run') k d
+      alike r q q' (suc t) u u' x x' e e' s s' run h (rw (one_inside p r' r g' g) at run') k d
   alike p q q' t u u' x x' e e' s s' (play.inside {q = r} lt g run) h (play.passes {q = r'} {a = a} lt' g' run') k d = absurd (inside_no_pass p r r' a g g')
   alike p q q' t u u' x x' e e' s s' (play.passes {q = r} {a = a} {trace = y} lt g run) h play.stays k d = absurd (ended_pass p r t e' s' a y k lt g (sym d))
   alike p q q' t u u' x x' e e' s s' (play.passes {q = r} {a = a} lt g run) h (play.inside {q = r'} lt' g' run') k d = absurd (inside_no_pass p r' r a g' g)
   alike p q q' t u u' x x' e e' s s' (play.passes {q = r} {a = a} {trace = y} lt g run) h (play.passes {q = r'} {a = a'} {trace = y'} lt' g' run') k d =
       let one = one_pass p r r' a a' y y' g g' d in
       let moves : host_moves y ≡ host_moves y' = cancel a y y' (d ∙ ap (λ z. host_moves (z ∷ y')) (sym one.0)) in
-      let more = alike r q q' (suc t) u u' y y' e e' s s' run h (subst (λ (z : Position). Run G z (suc t) y' q' u') (sym one.1) run') k moves in
-      (ap (λ z. z ∷ y) one.0 ∙ ap (λ z. a' ∷ z) more.0, more.1, more.2)
+      let more = alike r q q' (suc t) u u' y y' e e' s s' run h (rw (← one.1) at run') k moves in
+      (cc, more.1, more.2)
 
 pub moves_determine_the_play : MovesDetermineThePlay
 moves_determine_the_play G moves x y =
-    let a = alike G _ _ _ 0 _ _ x.trace y.trace x.ending y.ending x.steps y.steps x.play.run x.play.ends y.play.run y.play.ends (x.moved ∙ sym y.moved) in
+    let a = alike G _ _ _ 0 _ _ x.trace y.trace x.ending y.ending x.steps y.steps x.play.run x.play.ends y.play.run y.play.ends (cc) in
     record { same_trace = a.0; same_ending = a.1; same_steps = a.2 }

@@ -1,15 +1,17 @@
 -- No name is shown twice, so no play comes before itself, and the list of full plays is without repetition.
-use Rattle.std.proofs.Common.{◌≡◌, ℕ, suc, ◌≤◌, Bool, true, false, ◌||◌, eqb, ◌⊎◌, List, [], ◌∷◌, ◌++◌, map, length, ℤ, sym, refl, ◌∙◌, subst, inl, inr, arith, eq-eqb}
+use Rattle.std.proofs.Common.{◌≡◌, ℕ, suc, ◌≤◌, Bool, false, eqb, ◌⊎◌, List, [], ◌∷◌, ◌++◌, map, length, ℤ, sym, refl, subst, inl, inr, arith, eq-eqb}
+use Rattle.std.proofs.Math.Logic.{⊎_elim}
 use mathlib.Core.List.Memᴰ
 use mathlib.Core.List.{Memᴰ}
-use mathlib.Core.Option.{Option, none, some}
-use lib.ListN.{length-map}
+use mathlib.Core.Option.{Option, some}
+use Rattle.std.proofs.lemmas.Bool.{or_parts}
+use Rattle.std.proofs.lemmas.List.{append_cancel_left, length-map}
 use Rattle.arithmetic.specs.Meaning.{WordList, Listed}
 use Rattle.rows.specs.declared.forms.MethodForm.TheVariants.{Abstract, Public, Private}
 use Rattle.rows.specs.declared.forms.Row.{Row}
-use Rattle.rows.specs.declared.forms.Row.TheVariants.{«Type» as TypeRow, Variable as VariableRow, Method as MethodRow, Global as GlobalRow, Term as TermRow}
-use Rattle.rules.specs.Terms.{Value, unit, word, name, pair}
-use Rattle.rules.specs.Memory.{Entry, host_name, library_name, at}
+use Rattle.rows.specs.declared.forms.Row.TheVariants.{Method as MethodRow}
+use Rattle.rules.specs.Terms.{Value, name, pair}
+use Rattle.rules.specs.Memory.{Entry, library_name, at}
 use Rattle.rules.specs.Unfolding.{public_from}
 use Rattle.rules.specs.Game.{Game, Position, library_runs, host_turn, start, Pass, stands, show_once, shown, ◌⊢◌─◌⟹◌}
 use Rattle.rules.specs.Game as rule
@@ -27,67 +29,44 @@ abbrev pub Distinct : List ℕ → Type 0
 Distinct P = (m n : ℕ) → StandsBefore m n P → m ≡ n → ⊥
 
 low : (m : ℕ) (rows : List Row) (n : ℕ) → Memᴰ n (public_from m rows) → m ≤ n
-low m [] n i = absurd (Memᴰ.not-nil i)
-low m (TypeRow k f ∷ rows) n i = low m rows n i
-low m (VariableRow k t ∷ rows) n i = low m rows n i
+low m [] n i = elim i [ ]
 low m (MethodRow k (Abstract t) ∷ rows) n i = let h = low (suc m) rows n i in omega arith
 low m (MethodRow k (Public t e) ∷ rows) n (Memᴰ.head d) = omega arith
 low m (MethodRow k (Public t e) ∷ rows) n (Memᴰ.tail i) = let h = low (suc m) rows n i in omega arith
 low m (MethodRow k (Private t e) ∷ rows) n i = let h = low (suc m) rows n i in omega arith
-low m (GlobalRow k t e ∷ rows) n i = low m rows n i
-low m (TermRow k f ∷ rows) n i = low m rows n i
+low m (row ∷ rows) n i = low m rows n i
 
 pub public_distinct : (m : ℕ) (rows : List Row) → Distinct (public_from m rows)
 public_distinct m [] a b s e = elim s [ ]
-public_distinct m (TypeRow k f ∷ rows) a b s e = public_distinct m rows a b s e
-public_distinct m (VariableRow k t ∷ rows) a b s e = public_distinct m rows a b s e
 public_distinct m (MethodRow k (Abstract t) ∷ rows) a b s e = public_distinct (suc m) rows a b s e
 public_distinct m (MethodRow k (Public t x) ∷ rows) a b (order.here d i) e = let h = low (suc m) rows b i in omega arith
 public_distinct m (MethodRow k (Public t x) ∷ rows) a b (order.later s) e = public_distinct (suc m) rows a b s e
 public_distinct m (MethodRow k (Private t x) ∷ rows) a b s e = public_distinct (suc m) rows a b s e
-public_distinct m (GlobalRow k t x ∷ rows) a b s e = public_distinct m rows a b s e
-public_distinct m (TermRow k f ∷ rows) a b s e = public_distinct m rows a b s e
+public_distinct m (row ∷ rows) a b s e = public_distinct m rows a b s e
 
 -- a number in a list stands there
-or_true : (a b : Bool) → a || b ≡ false → (a ≡ true → ⊥) × (b ≡ false)
-or_true true b e = absurd (let z : ◌≡◌ {A = ℕ} 0 1 = cc in omega arith)
-or_true false b e = ((λ d. let z : ◌≡◌ {A = ℕ} 0 1 = cc in omega arith), e)
-
 absent : (m : ℕ) (P : List ℕ) → stands m P ≡ false → Memᴰ m P → ⊥
-absent m [] e i = Memᴰ.not-nil i
-absent m (n ∷ P) e (Memᴰ.head d) = (or_true (eqb m n) (stands m P) e).0 (eq-eqb m n d)
-absent m (n ∷ P) e (Memᴰ.tail i) = absent m P (or_true (eqb m n) (stands m P) e).1 i
+absent m [] e i = elim i [ ]
+absent m (n ∷ P) e (Memᴰ.head d) = let y = eq-eqb m n d in cc
+absent m (n ∷ P) e (Memᴰ.tail i) = absent m P (or_parts (eqb m n) (stands m P) e).1 i
 
 -- one number more behind a list that lacks it
 behind : (P : List ℕ) (k m n : ℕ) → StandsBefore m n (P ++ (k ∷ [])) → StandsBefore m n P ⊎ (Memᴰ m P × (n ≡ k))
-behind [] k m n (order.here d i) = absurd (Memᴰ.not-nil i)
+behind [] k m n (order.here d i) = elim i [ ]
 behind [] k m n (order.later s) = elim s [ ]
-behind (j ∷ P) k m n (order.here d i) = go (mathlib.Core.List.Memᴰ.append_cases P i)
-  where
-    go : Memᴰ n P ⊎ Memᴰ n (k ∷ []) → StandsBefore m n (j ∷ P) ⊎ (Memᴰ m (j ∷ P) × (n ≡ k))
-    go (inl x) = inl (order.here d x)
-    go (inr x) = inr (Memᴰ.head d, Memᴰ.eq_of_singleton x)
-behind (j ∷ P) k m n (order.later s) = go (behind P k m n s)
-  where
-    go : StandsBefore m n P ⊎ (Memᴰ m P × (n ≡ k)) → StandsBefore m n (j ∷ P) ⊎ (Memᴰ m (j ∷ P) × (n ≡ k))
-    go (inl x) = inl (order.later x)
-    go (inr x) = inr (Memᴰ.tail x.0, x.1)
+behind (j ∷ P) k m n (order.here d i) =
+    ⊎_elim (λ x. inl (order.here d x)) (λ x. inr (Memᴰ.head d, Memᴰ.eq_of_singleton x)) (Memᴰ.append_cases P i)
+behind (j ∷ P) k m n (order.later s) = ⊎_elim (λ x. inl (order.later x)) (λ x. inr (Memᴰ.tail x.0, x.1)) (behind P k m n s)
 
 show_distinct : (o : Option Entry) (b : Bool) (k : ℕ) (P : List ℕ) → stands k P ≡ b → Distinct P → Distinct (show_once o b k P)
-show_distinct none b k P d h = h
-show_distinct (some (host_name θ θ')) b k P d h = h
-show_distinct (some (library_name x θ M)) true k P d h = h
-show_distinct (some (library_name x θ M)) false k P d h = λ m n s e. go m n e (behind P k m n s)
-  where
-    go : (m n : ℕ) → m ≡ n → StandsBefore m n P ⊎ (Memᴰ m P × (n ≡ k)) → ⊥
-    go m n e (inl x) = h m n x e
-    go m n e (inr x) = absent k P d (Memᴰ.cast (sym (e ∙ x.1)) x.0)
+show_distinct (some (library_name x θ M)) false k P d h = λ m n s e.
+    ⊎_elim (λ x. h m n x e) (λ x. absent k P d (Memᴰ.cast (cc) x.0)) (behind P k m n s)
+show_distinct o b k P d h = h
 
 shown_distinct : (R : List Entry) (v : Value) (P : List ℕ) → Distinct P → Distinct (shown R v P)
-shown_distinct R unit P h = h
-shown_distinct R (word i) P h = h
 shown_distinct R (name m) P h = show_distinct (at R m) (stands m P) m P refl h
 shown_distinct R (pair v w) P h = shown_distinct R w (shown R v P) (shown_distinct R v P h)
+shown_distinct R v P h = h
 
 abbrev shown_at : Position → List ℕ
 shown_at (library_runs K M μ P) = P
@@ -95,11 +74,9 @@ shown_at (host_turn K l μ P) = P
 
 module _ (G : Game) where
   step_distinct : (p q : Position) (b : Option Pass) → G ⊢ p ─ b ⟹ q → Distinct (shown_at p) → Distinct (shown_at q)
-  step_distinct p q b (rule.internal h d) x = x
   step_distinct p q b (rule.library_calls E m v θ θ' {K} {μ} {P} h) x = shown_distinct μ.names v P x
   step_distinct p q b (rule.library_answers m l v {K} {μ} {P}) x = shown_distinct μ.names v P x
-  step_distinct p q b (rule.host_calls m y l θ M v R i lt h s) x = x
-  step_distinct p q b (rule.host_answers m l E θ θ' v R h s) x = x
+  step_distinct p q b h x = x
 
   pub run_distinct : (p q : Position) (t u : ℕ) (trace : List Pass) → Run G p t trace q u → Distinct (shown_at p) → Distinct (shown_at q)
   run_distinct p q t u trace play.stays x = x
@@ -110,25 +87,20 @@ module _ (G : Game) where
     -- words do not come before themselves
     words_apart : (vs ws : List ℤ) → WordsBefore list vs ws → vs ≡ ws → ⊥
     words_apart vs ws (order.differ {v} {w} p q lt b d e) same =
-        let x : v ≡ w = cc in
-        let y = law.once p q (omega arith) b (sym d ∙ x ∙ e) in
+        let y = law.once p q (omega arith) b (cc) in
         omega arith
     words_apart vs ws (order.agree {vs = a} {ws = b} d h) same = words_apart a b h (cc)
 
     pub ahead_apart : (P : List ℕ) (m n : Move) → Distinct P → Ahead list P m n → m ≡ n → ⊥
-    ahead_apart P m n x order.call_first e = let z : ◌≡◌ {A = ℕ} 0 1 = cc in omega arith
+    ahead_apart P m n x order.call_first e = cc
     ahead_apart P m n x (order.shown_first {m = a} {n = b} s) e = x a b s (cc)
     ahead_apart P m n x (order.called_with {vs = vs} {ws = ws} d h) e = words_apart vs ws h (cc)
     ahead_apart P m n x (order.answered_with {vs = vs} {ws = ws} d h) e = words_apart vs ws h (cc)
 
-    same_next : (xs : List Move) (m n : Move) (a b : List Move) → xs ++ (m ∷ a) ≡ xs ++ (n ∷ b) → m ≡ n
-    same_next [] m n a b e = cc
-    same_next (x ∷ xs) m n a b e = same_next xs m n a b (cc)
-
-    before_apart : (x y : List Move) → Before G list x y → x ≡ y → ⊥
+    pub before_apart : (x y : List Move) → Before G list x y → x ≡ y → ⊥
     before_apart x y b e =
         ahead_apart b.shown b.first b.second (run_distinct _ _ _ _ _ b.run (public_distinct 0 G.rows)) b.ahead
-        (same_next (host_moves b.trace) b.first b.second b.after_first b.after_second (sym b.earlier_is ∙ e ∙ b.later_is))
+        (let d = append_cancel_left (host_moves b.trace) (b.first ∷ b.after_first) (b.second ∷ b.after_second) (cc) in cc)
 
     pub no_repetition : (xs : List (List Move)) → Ascending (Before G list) xs → WithoutRepetition xs
     no_repetition [] h = tt

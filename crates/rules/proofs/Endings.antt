@@ -1,5 +1,6 @@
 -- Every play comes to an end without the host, where the library is never stuck.
-use Rattle.std.proofs.Common.{◌≡◌, ℕ, zero, suc, ◌+◌, ◌-◌, ◌<◌, List, [], ◌∷◌, ◌++◌, refl, ◌∙◌, inl, inr, arith}
+use Rattle.std.proofs.Common.{◌≡◌, ℕ, zero, suc, ◌+◌, ◌-◌, ◌<◌, List, [], ◌∷◌, ◌++◌, refl, ◌∙◌, arith}
+use Rattle.std.proofs.Math.Logic.{⊎_elim}
 use mathlib.Core.Option.{Option, none, some}
 use Rattle.rules.specs.Terms.{Term}
 use Rattle.rules.specs.Memory.{Memory}
@@ -7,7 +8,6 @@ use Rattle.rules.specs.Game.{Game, Pending, Position, library_runs, host_turn, s
 use Rattle.rules.specs.Game as rule
 use Rattle.rules.specs.Plays.{Run, Ends, Ending, host_moves}
 use Rattle.rules.specs.Plays as play
-use Rattle.rules.specs.Laws.{GoesOn}
 use Rattle.rules.specs.Endings.{ComesToAnEnd, PlayableComesToAnEnd}
 use Rattle.rules.proofs.Counts.{within_steps}
 use Rattle.rules.proofs.Begun.{playable_is_never_stuck}
@@ -44,18 +44,13 @@ module _ (G : Game) where
   comes_to_an_end : (left t : ℕ) → left + t ≡ G.bounds.steps → (p : Position) → FreeFrom G p t → ComesToAnEnd G p t
   comes_to_an_end zero t sum p free = at_once p t play.cut_by_steps t (play.out_of_steps (omega arith))
   comes_to_an_end (suc left) t sum (host_turn K l μ P) free = at_once (host_turn K l μ P) t play.turn t (play.hands_over (omega arith))
-  comes_to_an_end (suc left) t sum (library_runs K M μ P) free = go (free [] (library_runs K M μ P) t play.stays) (comes_to_an_end left (suc t) (omega arith))
+  comes_to_an_end (suc left) t sum (library_runs K M μ P) free =
+      ⊎_elim (λ x. at_once (library_runs K M μ P) t x.0 x.1 x.2)
+      (λ x. step_more K M μ P t x.0 x.1 (omega arith) x.2 (comes_to_an_end left (suc t) (omega arith) x.1 (onward x.0 x.1 x.2))) (free [] (library_runs K M μ P) t play.stays)
     where
-      lt : t < G.bounds.steps
-      lt = omega arith
-
       onward : (a : Option Pass) (q : Position) → G ⊢ library_runs K M μ P ─ a ⟹ q → FreeFrom G q (suc t)
-      onward none q h tr r u run = free tr r u (play.inside lt h run)
-      onward (some a) q h tr r u run = free (a ∷ tr) r u (play.passes lt h run)
-
-      go : GoesOn G (library_runs K M μ P) t → ((q : Position) → FreeFrom G q (suc t) → ComesToAnEnd G q (suc t)) → ComesToAnEnd G (library_runs K M μ P) t
-      go (inl x) rest = at_once (library_runs K M μ P) t x.0 x.1 x.2
-      go (inr x) rest = step_more K M μ P t x.0 x.1 lt x.2 (rest x.1 (onward x.0 x.1 x.2))
+      onward none q h tr r u run = free tr r u (play.inside (omega arith) h run)
+      onward (some a) q h tr r u run = free (a ∷ tr) r u (play.passes (omega arith) h run)
 
 pub playable_comes_to_an_end : PlayableComesToAnEnd
 playable_comes_to_an_end G playable trace p t run =

@@ -1,12 +1,12 @@
 -- The stepping function takes exactly the steps of the rules, so there is at most one.
-use Rattle.std.proofs.Common.{◌≡◌, ℕ, Bool, true, false, [], ◌∷◌, ℤ, sym, refl, ap, ◌∙◌, subst}
-use mathlib.Core.Option.{Option, none, some, none-ne-some, some-injective}
+use Rattle.std.proofs.Common.{◌≡◌, ℕ, Bool, true, false, [], ◌∷◌, ℤ, sym, refl, ap, ◌∙◌}
+use mathlib.Core.Option.{Option, none, some, some-injective}
 use Rattle.arithmetic.specs.Meaning.{Meaning}
 use Rattle.rules.specs.Terms.{Term, Value, Context, Frame, choose, plug, fill, ⌊◌⌋}
-use Rattle.rules.specs.Terms.{⟨⟩, num, var, meth, get, lam, put, op, tuple, fst, snd, app, ite, let_in, assert, ⟪◌⟫}
+use Rattle.rules.specs.Terms.{num, var, meth, get, put, op, tuple, fst, snd, app, ite, let_in, assert, ⟪◌⟫}
 use Rattle.rules.specs.Terms.{unit, word, name, pair}
 use Rattle.rules.specs.Terms.{assert•, put•, op•₁, op•₂, tuple•₁, tuple•₂, fst•, snd•, app•₁, app•₂, let•, ite•, box•}
-use Rattle.rules.specs.Memory.{Entry, host_name, library_name, Memory, at}
+use Rattle.rules.specs.Memory.{Entry, library_name, Memory, at}
 use Rattle.rules.specs.Steps.{State, ◌∣◌, ◌⊢◌⟶◌}
 use Rattle.rules.specs.Steps as rule
 use Rattle.rules.specs.Stepping.{Redex, ⌈◌⌉, Parts, value, redex, neither, parts, under, on_word, on_name, on_pair, to, contract, reading, asserting, calling, within, stepped, next, TakesTheSteps, OneStep}
@@ -21,32 +21,18 @@ parts_value (pair v w) = rw (parts_value v, parts_value w)
 
 -- a redex has itself for its parts
 parts_redex : (r : Redex) → parts ⌈ r ⌉ ≡ redex [] r
-parts_redex (lam! x θ M) = refl
 parts_redex (let! x v M) = rw (parts_value v)
-parts_redex (op! o i j) = refl
 parts_redex (fst! v w) = rw (parts_value v, parts_value w)
 parts_redex (snd! v w) = rw (parts_value v, parts_value w)
-parts_redex (ite! i M N) = refl
-parts_redex (get! r) = refl
 parts_redex (put! r v) = rw (parts_value v)
-parts_redex (assert! i) = refl
 parts_redex (call! m v) = rw (parts_value v)
 parts_redex (leave! v) = rw (parts_value v)
+parts_redex r = refl
 
 parts_fill : (f : Frame) (M : Term) (E : Context) (r : Redex) → parts M ≡ redex E r → parts (fill f M) ≡ redex (f ∷ E) r
-parts_fill assert• M E r e = rw e
-parts_fill (put• x) M E r e = rw e
-parts_fill (op•₁ o N) M E r e = rw e
 parts_fill (op•₂ o v) M E r e = rw (parts_value v, e)
-parts_fill (tuple•₁ N) M E r e = rw e
 parts_fill (tuple•₂ v) M E r e = rw (parts_value v, e)
-parts_fill fst• M E r e = rw e
-parts_fill snd• M E r e = rw e
-parts_fill (app•₁ N) M E r e = rw e
-parts_fill (app•₂ m) M E r e = rw e
-parts_fill (let• x N) M E r e = rw e
-parts_fill (ite• A B) M E r e = rw e
-parts_fill box• M E r e = rw e
+parts_fill f M E r e = rw e
 
 -- E[redex] has the parts E and the redex
 pub parts_plug : (E : Context) (r : Redex) → parts (plug E ⌈ r ⌉) ≡ redex E r
@@ -65,30 +51,19 @@ under_is f N (redex E r) k h g = ap (fill f) h
 under_is f N neither k h g = tt
 
 on_word_is : (M : Term) (k : ℤ → Parts) (v : Value) → ((i : ℤ) → ⌊ v ⌋ ≡ num i → MadeOf M (k i)) → MadeOf M (on_word k v)
-on_word_is M k unit g = tt
 on_word_is M k (word i) g = g i refl
-on_word_is M k (name m) g = tt
-on_word_is M k (pair v w) g = tt
+on_word_is M k v g = tt
 
 on_name_is : (M : Term) (k : ℕ → Parts) (v : Value) → ((m : ℕ) → ⌊ v ⌋ ≡ meth m → MadeOf M (k m)) → MadeOf M (on_name k v)
-on_name_is M k unit g = tt
-on_name_is M k (word i) g = tt
 on_name_is M k (name m) g = g m refl
-on_name_is M k (pair v w) g = tt
+on_name_is M k v g = tt
 
 on_pair_is : (M : Term) (k : Value → Value → Parts) (v : Value) → ((a b : Value) → ⌊ v ⌋ ≡ tuple ⌊ a ⌋ ⌊ b ⌋ → MadeOf M (k a b)) → MadeOf M (on_pair k v)
-on_pair_is M k unit g = tt
-on_pair_is M k (word i) g = tt
-on_pair_is M k (name m) g = tt
 on_pair_is M k (pair a b) g = g a b refl
+on_pair_is M k v g = tt
 
 pub parts_are : (M : Term) → MadeOf M (parts M)
-parts_are ⟨⟩ = refl
-parts_are (num i) = refl
 parts_are (var x) = tt
-parts_are (meth m) = refl
-parts_are (get r) = refl
-parts_are (lam x θ M) = refl
 parts_are (put r M) = under_is (put• r) M (parts M) _ (parts_are M) (λ v e. ap (put r) e)
 parts_are (op o M N) =
     under_is (op•₁ o N) M (parts M) _ (parts_are M)
@@ -108,6 +83,7 @@ parts_are (ite M A B) = under_is (ite• A B) M (parts M) _ (parts_are M) (λ v 
 parts_are (let_in x M N) = under_is (let• x N) M (parts M) _ (parts_are M) (λ v e. cc)
 parts_are (assert M) = under_is assert• M (parts M) _ (parts_are M) (λ v e. on_word_is _ _ v (λ i p. cc))
 parts_are ⟪ M ⟫ = under_is box• M (parts M) _ (parts_are M) (λ v e. ap ⟪◌⟫ e)
+parts_are M = refl
 
 module _ (A : Meaning) where
   taken : (E : Context) (r : Redex) (μ : Memory) (N : Term) (μ' : Memory) → contract A r μ ≡ to N μ' → next A (plug E ⌈ r ⌉ ∣ μ) ≡ some (plug E N ∣ μ')
@@ -128,14 +104,14 @@ module _ (A : Meaning) where
   complete c d (rule.leave E v) = taken E (leave! v) _ _ _ refl
 
   to_other : (c : State) {d d' : State} → A ⊢ c ⟶ d → some d ≡ some d' → A ⊢ c ⟶ d'
-  to_other c h e = subst (λ (x : State). A ⊢ c ⟶ x) (some-injective _ _ e) h
+  to_other c h e = rw (some-injective _ _ e) at h
 
   by_read : (E : Context) (r : ℕ) (μ : Memory) (d : State) (o : Option Value) → at μ.globals r ≡ o → within A E (reading o μ) ≡ some d → A ⊢ plug E (get r) ∣ μ ⟶ d
-  by_read E r μ d none q e = absurd (none-ne-some _ e)
+  by_read E r μ d none q e = cc
   by_read E r μ d (some v) q e = to_other _ (rule.read E r v q) e
 
   by_assert : (E : Context) (i : ℤ) (μ : Memory) (d : State) (b : Bool) → A.zero i ≡ b → within A E (asserting b μ) ≡ some d → A ⊢ plug E (assert (num i)) ∣ μ ⟶ d
-  by_assert E i μ d true q e = absurd (none-ne-some _ e)
+  by_assert E i μ d true q e = cc
   by_assert E i μ d false q e = to_other _ (rule.asserted E i q) e
 
   pub by_if : (E : Context) (i : ℤ) (M N : Term) (μ : Memory) (b : Bool) → A.zero i ≡ b → A ⊢ plug E (ite (num i) M N) ∣ μ ⟶ plug E (choose b N M) ∣ μ
@@ -143,9 +119,8 @@ module _ (A : Meaning) where
   by_if E i M N μ false q = rule.if_true E i M N q
 
   by_call : (E : Context) (m : ℕ) (v : Value) (μ : Memory) (d : State) (o : Option Entry) → at μ.names m ≡ o → within A E (calling o m v μ) ≡ some d → A ⊢ plug E (app (meth m) ⌊ v ⌋) ∣ μ ⟶ d
-  by_call E m v μ d none q e = absurd (none-ne-some _ e)
-  by_call E m v μ d (some (host_name θ θ')) q e = absurd (none-ne-some _ e)
   by_call E m v μ d (some (library_name x θ M)) q e = to_other _ (rule.enter E m x θ M v q) e
+  by_call E m v μ d o q e = cc
 
   of_redex : (E : Context) (r : Redex) (μ : Memory) (d : State) → within A E (contract A r μ) ≡ some d → A ⊢ plug E ⌈ r ⌉ ∣ μ ⟶ d
   of_redex E (lam! x θ M) μ d e = to_other _ (rule.new_name E x θ M) e
@@ -161,9 +136,8 @@ module _ (A : Meaning) where
   of_redex E (leave! v) μ d e = to_other _ (rule.leave E v) e
 
   of_parts : (M : Term) (μ : Memory) (d : State) (s : Parts) → MadeOf M s → stepped A s μ ≡ some d → A ⊢ M ∣ μ ⟶ d
-  of_parts M μ d (value v) h e = absurd (none-ne-some _ e)
-  of_parts M μ d (redex E r) h e = subst (λ (X : Term). A ⊢ X ∣ μ ⟶ d) h (of_redex E r μ d e)
-  of_parts M μ d neither h e = absurd (none-ne-some _ e)
+  of_parts M μ d (redex E r) h e = rw h at (of_redex E r μ d e)
+  of_parts M μ d s h e = cc
 
   sound : (c d : State) → next A c ≡ some d → A ⊢ c ⟶ d
   sound (M ∣ μ) d e = of_parts M μ d (parts M) (parts_are M) e

@@ -30,11 +30,8 @@ moves_append (library_answer m v ∷ x) y = moves_append x y
 
 -- what the library does next at a position that is not stuck
 abbrev NextSome : Next → Type 0
-NextSome (goes_on q) = Unit {0}
-NextSome (hands a q) = Unit {0}
-NextSome fails = Unit {0}
-NextSome deep = Unit {0}
 NextSome no_step = ⊥
+NextSome n = Unit {0}
 
 did_some : (a : Option Pass) (q : Position) → NextSome (did a q)
 did_some none q = tt

@@ -1,4 +1,5 @@
 mod Exact
+mod Places
 mod Computed
 mod Sayings
 mod Nexts

@@ -1,11 +1,11 @@
 -- What the library does next, by the relation and by the function.
-use Rattle.std.proofs.Common.{◌≡◌, ℕ, Bool, true, false, ltb, List, [], ◌∷◌, ℤ, refl, ap, subst, ltb-false, ltb-true, le-ltb, lt-ltb}
-use mathlib.Core.Option.{Option, none, some, none-ne-some, some-injective}
+use Rattle.std.proofs.Common.{◌≡◌, ℕ, Bool, true, false, ltb, List, ◌∷◌, ℤ, refl, ltb-false, ltb-true, le-ltb, lt-ltb}
+use mathlib.Core.Option.{Option, none, some}
 use Rattle.rules.specs.Terms.{Term, Value, Context, plug, ⌊◌⌋, num, app, meth, assert, get}
 use Rattle.rules.specs.Memory.{Entry, host_name, library_name, Memory, at}
 use Rattle.rules.specs.Steps.{State, ◌∣◌, ◌⊢◌⟶◌}
 use Rattle.rules.specs.Steps as step
-use Rattle.rules.specs.Stepping.{Redex, ⌈◌⌉, Parts, value, redex, neither, parts, Contracted, to, failing, asks, stuck, contract, reading, asserting, calling, within, stepped}
+use Rattle.rules.specs.Stepping.{Redex, ⌈◌⌉, Parts, value, redex, neither, parts, Contracted, to, contract, reading, asserting, calling, within, stepped}
 use Rattle.rules.specs.Stepping.{lam!, let!, op!, fst!, snd!, ite!, get!, put!, assert!, call!, leave! }
 use Rattle.rules.specs.Game.{Game, Pending, library_waits, host_waits, Position, library_runs, host_turn, Pass, ◌⊢◌─◌⟹◌, Fails, TooDeep}
 use Rattle.rules.specs.Game as rule
@@ -24,15 +24,12 @@ module _ (G : Game) where
 
   led_on : (E : Context) (c : Contracted) (K : List Pending) (μ : Memory) (P : List ℕ) (d : State) → within G.meaning E c ≡ some d → continued G K E c μ P ≡ led K P d
   unfolding led
-  led_on E (to N μ') K μ P d e = ap (led K P) (some-injective _ _ e)
-  led_on E failing K μ P d e = absurd (none-ne-some _ e)
-  led_on E (asks m v) K μ P d e = absurd (none-ne-some _ e)
-  led_on E stuck K μ P d e = absurd (none-ne-some _ e)
+  led_on E (to N μ') K μ P d e = cc
+  led_on E c K μ P d e = cc
 
   led_by : (s : Parts) (K : List Pending) (μ : Memory) (P : List ℕ) (d : State) → stepped G.meaning s μ ≡ some d → next_by G K s μ P ≡ led K P d
-  led_by (value v) K μ P d e = absurd (none-ne-some _ e)
   led_by (redex E r) K μ P d e = led_on E (contract G.meaning r μ) K μ P d e
-  led_by neither K μ P d e = absurd (none-ne-some _ e)
+  led_by s K μ P d e = cc
 
   own_step : (K : List Pending) (P : List ℕ) (M M' : Term) (μ μ' : Memory) → G.meaning ⊢ M ∣ μ ⟶ M' ∣ μ' → library_next G K M μ P ≡ bounded (ltb G.bounds.depth μ'.depth) (library_runs K M' μ' P)
   unfolding led
@@ -96,13 +93,12 @@ module _ (G : Game) where
     redex_so E (leave! v) = bound_so _ _ _ _ refl (step.leave E v)
 
   answer_so : (K : List Pending) (μ : Memory) (P : List ℕ) (v : Value) → IsSo (library_runs K ⌊ v ⌋ μ P) (answering K v μ P)
-  answer_so [] μ P v = tt
-  answer_so (library_waits m E ∷ K) μ P v = tt
   answer_so (host_waits m l ∷ K) μ P v = rule.library_answers m l v
+  answer_so K μ P v = tt
 
   parts_so : (K : List Pending) (M : Term) (μ : Memory) (P : List ℕ) (s : Parts) → MadeOf M s → IsSo (library_runs K M μ P) (next_by G K s μ P)
-  parts_so K M μ P (value v) h = subst (λ (X : Term). IsSo (library_runs K X μ P) (answering K v μ P)) h (answer_so K μ P v)
-  parts_so K M μ P (redex E r) h = subst (λ (X : Term). IsSo (library_runs K X μ P) (continued G K E (contract G.meaning r μ) μ P)) h (redex_so K μ P E r)
+  parts_so K M μ P (value v) h = rw h at (answer_so K μ P v)
+  parts_so K M μ P (redex E r) h = rw h at (redex_so K μ P E r)
   parts_so K M μ P neither h = tt
 
   pub next_so : (K : List Pending) (M : Term) (μ : Memory) (P : List ℕ) → IsSo (library_runs K M μ P) (library_next G K M μ P)

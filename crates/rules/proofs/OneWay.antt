@@ -1,5 +1,5 @@
 -- The order of plays goes one way only: no play comes before one that comes before it.
-use Rattle.std.proofs.Common.{◌≡◌, ℕ, suc, List, [], ◌∷◌, ◌++◌, ℤ, sym, refl, ap, ◌∙◌, subst, arith}
+use Rattle.std.proofs.Common.{◌≡◌, ℕ, suc, List, [], ◌∷◌, ◌++◌, ℤ, sym, refl, ap, ◌∙◌, arith}
 use mathlib.Core.List.{Memᴰ}
 use Rattle.arithmetic.specs.Meaning.{WordList, Listed}
 use Rattle.rules.specs.Memory.{Memory}
@@ -19,7 +19,7 @@ stands_behind m n P (order.later s) = Memᴰ.tail (stands_behind m n _ s)
 
 -- of two numbers of a list without repetition, not each stands before the other
 stands_one_way : (m n : ℕ) (P : List ℕ) → Distinct P → StandsBefore m n P → StandsBefore n m P → ⊥
-stands_one_way m n P once (order.here e i) (order.here d j) = once m n (order.here e i) (e ∙ sym d)
+stands_one_way m n P once (order.here e i) (order.here d j) = once m n (order.here e i) (cc)
 stands_one_way m n P once (order.here e i) (order.later s) = once m m (order.here e (stands_behind n m _ s)) refl
 stands_one_way m n P once (order.later s) (order.here d j) = once n n (order.here d (stands_behind m n _ s)) refl
 stands_one_way m n P once (order.later s) (order.later r) = stands_one_way m n _ (λ a b x e. once a b (order.later x) e) s r
@@ -33,34 +33,32 @@ module _ (G : Game) where
   same_turn p K K' l l' μ μ' P P' t u u' x x' (play.inside {q = r} lt h run) play.stays e = elim h [ ]
   same_turn p K K' l l' μ μ' P P' t u u' x x' (play.passes {q = r} {a = a} {trace = y} lt h run) play.stays e = absurd (pass_moves G K' l' μ' P' r a y h (sym e))
   same_turn p K K' l l' μ μ' P P' t u u' x x' (play.inside {q = r} lt h run) (play.inside {q = r'} lt' h' run') e =
-      same_turn r K K' l l' μ μ' P P' (suc t) u u' x x' run (subst (λ (z : Position). Run G z (suc t) x' (host_turn K' l' μ' P') u') (one_inside G p r' r h' h) run') e
+      same_turn r K K' l l' μ μ' P P' (suc t) u u' x x' run (rw (one_inside G p r' r h' h) at run') e
   same_turn p K K' l l' μ μ' P P' t u u' x x' (play.inside {q = r} lt h run) (play.passes {q = r'} {a = a} lt' h' run') e = absurd (inside_no_pass G p r r' a h h')
   same_turn p K K' l l' μ μ' P P' t u u' x x' (play.passes {q = r} {a = a} lt h run) (play.inside {q = r'} lt' h' run') e = absurd (inside_no_pass G p r' r a h' h)
   same_turn p K K' l l' μ μ' P P' t u u' x x' (play.passes {q = r} {a = a} {trace = y} lt h run) (play.passes {q = r'} {a = a'} {trace = y'} lt' h' run') e =
       let one = one_pass G p r r' a a' y y' h h' e in
-      same_turn r K K' l l' μ μ' P P' (suc t) u u' y y' run (subst (λ (z : Position). Run G z (suc t) y' (host_turn K' l' μ' P') u') (sym one.1) run')
+      same_turn r K K' l l' μ μ' P P' (suc t) u u' y y' run (rw (← one.1) at run')
       (cancel a y y' (e ∙ ap (λ z. host_moves (z ∷ y')) (sym one.0)))
 
 -- two lists first differ at one place
 first_difference : (u v : List Move) (a b c d : Move) (p q r s : List Move) → u ++ (a ∷ p) ≡ v ++ (c ∷ r) → u ++ (b ∷ q) ≡ v ++ (d ∷ s) → (a ≡ b → ⊥) → (c ≡ d → ⊥) → (u ≡ v) × (a ≡ c) × (b ≡ d)
-first_difference [] [] a b c d p q r s x y f g = (refl, (cc), (cc))
+first_difference [] [] a b c d p q r s x y f g = (refl, cc, cc)
 first_difference [] (m ∷ v) a b c d p q r s x y f g = absurd (f (cc))
 first_difference (m ∷ u) [] a b c d p q r s x y f g = absurd (g (cc))
 first_difference (m ∷ u) (n ∷ v) a b c d p q r s x y f g =
     let w = first_difference u v a b c d p q r s (cc) (cc) f g in
-    let same = w.0 in
-    let k : m ≡ n = cc in
-    (ap (λ z. z ∷ u) k ∙ ap (λ z. n ∷ z) same, w.1, w.2)
+    (cc, w.1, w.2)
 
 module _ (G : Game) (list : WordList) (law : Listed G.meaning list) where
   -- of two values, not each comes before the other by its words
   words_one_way : (vs ws : List ℤ) → WordsBefore list vs ws → WordsBefore list ws vs → ⊥
   words_one_way vs ws (order.differ p q lt b d e) (order.differ p' q' lt' b' d' e') =
-      let x = law.once p q' (omega arith) b' (sym d ∙ e') in
-      let y = law.once q p' b (omega arith) (sym e ∙ d') in
+      let x = law.once p q' (omega arith) b' (cc) in
+      let y = law.once q p' b (omega arith) (cc) in
       omega arith
-  words_one_way vs ws (order.differ p q lt b d e) (order.agree same h) = let x = law.once p q (omega arith) b (sym d ∙ sym same ∙ e) in omega arith
-  words_one_way vs ws (order.agree same h) (order.differ p q lt b d e) = let x = law.once p q (omega arith) b (sym d ∙ sym same ∙ e) in omega arith
+  words_one_way vs ws (order.differ p q lt b d e) (order.agree same h) = let x = law.once p q (omega arith) b (cc) in omega arith
+  words_one_way vs ws (order.agree same h) (order.differ p q lt b d e) = let x = law.once p q (omega arith) b (cc) in omega arith
   words_one_way vs ws (order.agree same h) (order.agree other k) = words_one_way _ _ h k
 
   -- of two moves, not each is ahead of the other
@@ -79,12 +77,12 @@ module _ (G : Game) (list : WordList) (law : Listed G.meaning list) where
       let other = run_distinct G _ _ _ _ _ d.run (public_distinct 0 G.rows) in
       let w =
       first_difference (host_moves b.trace) (host_moves d.trace) b.first b.second d.second d.first b.after_first b.after_second d.after_second d.after_first
-      (sym b.earlier_is ∙ d.later_is) (sym b.later_is ∙ d.earlier_is)
+      (cc) (cc)
       (λ e. ahead_apart G list law b.shown b.first b.second once b.ahead e) (λ e. ahead_apart G list law d.shown d.first d.second other d.ahead (sym e))
       in
       let P = same_turn G _ _ _ _ _ _ _ _ _ 0 _ _ b.trace d.trace b.run d.run w.0 in
       ahead_one_way b.shown b.first b.second once b.ahead
-      (subst (λ (z : List ℕ). Ahead list z b.second b.first) (sym P) (subst (λ (z : Move). Ahead list d.shown z b.first) (sym w.2) (subst (λ (z : Move). Ahead list d.shown d.first z) (sym w.1) d.ahead)))
+      (rw (← w.1, ← w.2, ← P) at d.ahead)
 
 pub order_goes_one_way : OrderGoesOneWay
 order_goes_one_way = before_one_way

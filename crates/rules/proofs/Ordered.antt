@@ -1,5 +1,6 @@
 -- The list of full plays is in order.
-use Rattle.std.proofs.Common.{◌≡◌, ℕ, zero, suc, ◌+◌, ◌<◌, Bool, true, false, ltb, ◌⊎◌, List, [], ◌∷◌, ◌++◌, map, ℤ, sym, refl, ap, ◌∙◌, subst, inl, inr, append_assoc, arith}
+use Rattle.std.proofs.Common.{◌≡◌, ℕ, zero, suc, ◌+◌, ◌<◌, Bool, true, false, ltb, List, [], ◌∷◌, ◌++◌, map, ℤ, sym, refl, ap, ◌∙◌, subst, append_assoc, arith}
+use Rattle.std.proofs.Math.Logic.{⊎_elim}
 use mathlib.Core.List.Memᴰ
 use mathlib.Core.List.{Memᴰ}
 use mathlib.Core.Option.{Option, none, some}
@@ -25,12 +26,8 @@ module _ {X : Type 0} where
   ascending_append R [] ys h k c = k
   ascending_append R (x ∷ xs) ys h k c = (first, ascending_append R xs ys h.1 k (λ a b i j. c a b (Memᴰ.tail i) j))
     where
-      go : (y : X) → Memᴰ y xs ⊎ Memᴰ y ys → R x y
-      go y (inl i) = h.0 y i
-      go y (inr j) = c x y (Memᴰ.head refl) j
-
       first : (y : X) → Memᴰ y (xs ++ ys) → R x y
-      first y i = go y (Memᴰ.append_cases xs i)
+      first y i = ⊎_elim (λ j. h.0 y j) (λ j. c x y (Memᴰ.head refl) j) (Memᴰ.append_cases xs i)
 
   ascending_weaker : (R S : X → X → Type 0) (xs : List X) → ((x y : X) → R x y → S x y) → Ascending R xs → Ascending S xs
   ascending_weaker R S [] f h = tt
@@ -102,7 +99,7 @@ module _ (list : WordList) where
       first (saying v R') i =
           let x = in_each R R' v ws i in
           let b = h.0 x.0 x.1 in
-          subst (λ (z : Value). WordsBefore list (w ∷ []) (words z)) (sym x.2) (order.differ b.0 b.1 b.2 b.3 b.4 b.5)
+          rw x.2 (order.differ b.0 b.1 b.2 b.3 b.4 b.5)
 
   left_ascend : (v : Value) (ss : List Saying) → Ascending SaidBefore ss → Ascending SaidBefore (with_left v ss)
   left_ascend v [] h = tt
@@ -111,7 +108,7 @@ module _ (list : WordList) where
       first : (y : Saying) → Memᴰ y (with_left v ss) → SaidBefore (saying (pair v w) R) y
       first (saying u R') i =
           let x = in_left v u R' ss i in
-          subst (λ (z : Value). WordsBefore list (words v ++ words w) (words z)) (sym x.2) (words_prefix list (words v) (words w) (words x.0) (h.0 (saying x.0 R') x.1))
+          rw x.2 (words_prefix list (words v) (words w) (words x.0) (h.0 (saying x.0 R') x.1))
 
   both_ascend : (right : List Entry → List Saying) (ss : List Saying) → ((R : List Entry) → Ascending SaidBefore (right R)) → Ascending SaidBefore ss → Ascending SaidBefore (both_parts right ss)
   both_ascend right [] k h = tt
@@ -123,14 +120,14 @@ module _ (list : WordList) where
           let a = in_left v u S (right R) i in
           let b = in_both right z T ss j in
           let lead = words_extend list (words v) (words b.0) (words a.0) (words b.1) (h.0 (saying b.0 b.2) b.3) in
-          subst (λ (e : Value). WordsBefore list (words u) (words e)) (sym b.5) (subst (λ (e : Value). WordsBefore list (words e) (words b.0 ++ words b.1)) (sym a.2) lead)
+          rw (b.5, a.2) lead
 
   module _ (G : Game) where
     sayings_ascend : (θ : Tree) (R : List Entry) → Ascending SaidBefore (sayings G list θ R)
-    sayings_ascend unit_type R = ((λ y i. absurd (Memᴰ.not-nil i)), tt)
+    sayings_ascend unit_type R = ((λ y i. elim i [ ]), tt)
     sayings_ascend int_type R = each_ascend R _ (words_ascend list.length list.word (λ p. p) (λ p. refl) (λ p q a b. a) (λ p a. a))
     sayings_ascend (pair_type θ θ') R = both_ascend (sayings G list θ') (sayings G list θ R) (sayings_ascend θ') (sayings_ascend θ R)
-    sayings_ascend (function_type θ θ') R = ((λ y i. absurd (Memᴰ.not-nil i)), tt)
+    sayings_ascend (function_type θ θ') R = ((λ y i. elim i [ ]), tt)
 
     module _ (P : List ℕ) where
       abbrev ReplyBefore : Reply → Reply → Type 0
@@ -144,26 +141,22 @@ module _ (list : WordList) where
             first : (y : Reply) → Memᴰ y (calls_with m ss K l μ P) → Ahead list P (call m (four (words v))) (move_of (passed y))
             first (reply b r) i =
                 let x = in_with G list law K l μ P m b r ss i in
-                subst (λ (z : Pass). Ahead list P (call m (four (words v))) (move_of z)) (sym x.3) (order.called_with refl (words_extend list (words v) (words x.0) _ _ (h.0 (saying x.0 x.1) x.2)))
+                rw x.3 (order.called_with refl (words_extend list (words v) (words x.0) _ _ (h.0 (saying x.0 x.1) x.2)))
 
         calls_of_ascend : (o : Option Entry) (m : ℕ) → Ascending ReplyBefore (calls_of G list o m K l μ P)
-        calls_of_ascend none m = tt
-        calls_of_ascend (some (host_name θ θ')) m = tt
         calls_of_ascend (some (library_name x θ M)) m = calls_with_ascend m (sayings G list θ μ.names) (sayings_ascend θ μ.names)
+        calls_of_ascend o m = tt
 
         -- a call of one name, and of one of several
         calls_one : (o : Option Entry) (m : ℕ) (b : Pass) (r : Position) → Memᴰ (reply b r) (calls_of G list o m K l μ P) → (v : Value) × (b ≡ host_call m v)
-        calls_one none m b r i = absurd (Memᴰ.not-nil i)
-        calls_one (some (host_name θ θ')) m b r i = absurd (Memᴰ.not-nil i)
         calls_one (some (library_name x θ M)) m b r i = let w = in_with G list law K l μ P m b r (sayings G list θ μ.names) i in (w.0, w.3)
+        calls_one o m b r i = elim i [ ]
 
         calls_some : (ms : List ℕ) (b : Pass) (r : Position) → Memᴰ (reply b r) (calls G list ms K l μ P) → (n : ℕ) × (v : Value) × Memᴰ n ms × (b ≡ host_call n v)
-        calls_some [] b r i = absurd (Memᴰ.not-nil i)
-        calls_some (m ∷ ms) b r i = go (Memᴰ.append_cases (calls_of G list (at μ.names m) m K l μ P) i) (λ j. calls_some ms b r j)
-          where
-            go : Memᴰ (reply b r) (calls_of G list (at μ.names m) m K l μ P) ⊎ Memᴰ (reply b r) (calls G list ms K l μ P) → (Memᴰ (reply b r) (calls G list ms K l μ P) → (n : ℕ) × (v : Value) × Memᴰ n ms × (b ≡ host_call n v)) → (n : ℕ) × (v : Value) × Memᴰ n (m ∷ ms) × (b ≡ host_call n v)
-            go (inl j) more = let w = calls_one (at μ.names m) m b r j in (m, w.0, Memᴰ.head refl, w.1)
-            go (inr j) more = let w = more j in (w.0, w.1, Memᴰ.tail w.2, w.3)
+        calls_some [] b r i = elim i [ ]
+        calls_some (m ∷ ms) b r i =
+            ⊎_elim (λ j. let w = calls_one (at μ.names m) m b r j in (m, w.0, Memᴰ.head refl, w.1)) (λ j. let w = calls_some ms b r j in (w.0, w.1, Memᴰ.tail w.2, w.3))
+            (Memᴰ.append_cases (calls_of G list (at μ.names m) m K l μ P) i)
 
         calls_ascend : (ms : List ℕ) → ((m n : ℕ) → StandsBefore m n ms → StandsBefore m n P) → Ascending ReplyBefore (calls G list ms K l μ P)
         calls_ascend [] sub = tt
@@ -174,7 +167,7 @@ module _ (list : WordList) where
             across (reply a q) (reply b r) i j =
                 let v = calls_one (at μ.names m) m a q i in
                 let w = calls_some ms b r j in
-                subst (λ (z : Pass). Ahead list P (move_of a) (move_of z)) (sym w.3) (subst (λ (z : Pass). Ahead list P (move_of z) (move_of (host_call w.0 w.1))) (sym v.1) (order.shown_first (sub m w.0 (order.here refl w.2))))
+                rw (w.3, v.1) (order.shown_first (sub m w.0 (order.here refl w.2)))
 
         allowed_ascend : (b : Bool) → Ascending ReplyBefore (where_true b (calls G list P K l μ P))
         allowed_ascend true = calls_ascend P (λ m n s. s)
@@ -182,7 +175,7 @@ module _ (list : WordList) where
 
         allowed_call : (c : Bool) (b : Pass) (r : Position) → Memᴰ (reply b r) (where_true c (calls G list P K l μ P)) → (n : ℕ) × (v : Value) × (b ≡ host_call n v)
         allowed_call true b r i = let w = calls_some P b r i in (w.0, w.1, w.3)
-        allowed_call false b r i = absurd (Memᴰ.not-nil i)
+        allowed_call false b r i = elim i [ ]
 
       module _ (law : Listed G.meaning list) (μ : Memory) where
         answers_with_ascend : (m : ℕ) (E : Context) (K : List Pending) (ss : List Saying) → Ascending SaidBefore ss → Ascending ReplyBefore (answers_with m E ss K μ P)
@@ -192,27 +185,23 @@ module _ (list : WordList) where
             first : (y : Reply) → Memᴰ y (answers_with m E ss K μ P) → Ahead list P (answer m (four (words v))) (move_of (passed y))
             first (reply b r) i =
                 let x = in_answer G list law m E K μ P b r ss i in
-                subst (λ (z : Pass). Ahead list P (answer m (four (words v))) (move_of z)) (sym x.3) (order.answered_with refl (words_extend list (words v) (words x.0) _ _ (h.0 (saying x.0 x.1) x.2)))
+                rw x.3 (order.answered_with refl (words_extend list (words v) (words x.0) _ _ (h.0 (saying x.0 x.1) x.2)))
 
         answers_of_ascend : (o : Option Entry) (m : ℕ) (E : Context) (K : List Pending) → Ascending ReplyBefore (answers_of G list o m E K μ P)
-        answers_of_ascend none m E K = tt
         answers_of_ascend (some (host_name θ θ')) m E K = answers_with_ascend m E K (sayings G list θ' μ.names) (sayings_ascend θ' μ.names)
-        answers_of_ascend (some (library_name x θ M)) m E K = tt
+        answers_of_ascend o m E K = tt
 
         answers_ascend : (K : List Pending) → Ascending ReplyBefore (answers G list K μ P)
-        answers_ascend [] = tt
-        answers_ascend (host_waits m l ∷ K) = tt
         answers_ascend (library_waits m E ∷ K) = answers_of_ascend (at μ.names m) m E K
+        answers_ascend K = tt
 
         answers_one : (o : Option Entry) (m : ℕ) (E : Context) (K : List Pending) (b : Pass) (r : Position) → Memᴰ (reply b r) (answers_of G list o m E K μ P) → (v : Value) × (b ≡ host_answer m v)
-        answers_one none m E K b r i = absurd (Memᴰ.not-nil i)
         answers_one (some (host_name θ θ')) m E K b r i = let w = in_answer G list law m E K μ P b r (sayings G list θ' μ.names) i in (w.0, w.3)
-        answers_one (some (library_name x θ M)) m E K b r i = absurd (Memᴰ.not-nil i)
+        answers_one o m E K b r i = elim i [ ]
 
         answers_some : (K : List Pending) (b : Pass) (r : Position) → Memᴰ (reply b r) (answers G list K μ P) → (n : ℕ) × (v : Value) × (b ≡ host_answer n v)
-        answers_some [] b r i = absurd (Memᴰ.not-nil i)
-        answers_some (host_waits m l ∷ K) b r i = absurd (Memᴰ.not-nil i)
         answers_some (library_waits m E ∷ K) b r i = let w = answers_one (at μ.names m) m E K b r i in (m, w.0, w.1)
+        answers_some K b r i = elim i [ ]
 
     replies_ascend : (law : Listed G.meaning list) (K : List Pending) (l : ℕ) (μ : Memory) (P : List ℕ) → Ascending (ReplyBefore P) (replies G list K l μ P)
     replies_ascend law K l μ P =
@@ -222,7 +211,7 @@ module _ (list : WordList) where
         across (reply a q) (reply b r) i j =
             let v = allowed_call P law K l μ _ a q i in
             let w = answers_some P law μ K b r j in
-            subst (λ (z : Pass). Ahead list P (move_of a) (move_of z)) (sym w.2) (subst (λ (z : Pass). Ahead list P (move_of z) (move_of (host_answer w.0 w.1))) (sym v.2) order.call_first)
+            rw (w.2, v.2) order.call_first
 
     module _ (law : Listed G.meaning list) where
       abbrev PlaysBefore : Position → ℕ → Played → Played → Type 0
@@ -273,25 +262,23 @@ module _ (list : WordList) where
       next_ascends : (left t : ℕ) (p : Position) (n : Next) → t < G.bounds.steps → IsSo G p n → RestAscends left (suc t) → Ascending (PlaysBefore p t) (after_next (plays_from G list left (suc t)) t n)
       next_ascends left t p (goes_on q) lt h rest = ascending_weaker (PlaysBefore q (suc t)) (PlaysBefore p t) _ (λ x y b. inside_before p q t lt h _ _ b) (rest q)
       next_ascends left t p (hands a q) lt h rest = ascending_map (PlaysBefore q (suc t)) (PlaysBefore p t) (after a) _ (λ x y b. pass_before p q t a lt h x y b) (rest q)
-      next_ascends left t p fails lt h rest = ((λ y i. absurd (Memᴰ.not-nil i)), tt)
-      next_ascends left t p deep lt h rest = ((λ y i. absurd (Memᴰ.not-nil i)), tt)
+      next_ascends left t p fails lt h rest = ((λ y i. elim i [ ]), tt)
+      next_ascends left t p deep lt h rest = ((λ y i. elim i [ ]), tt)
       next_ascends left t p no_step lt h rest = tt
 
       -- the move of a reply at the host's turn
       reply_move : (K : List Pending) (l : ℕ) (μ : Memory) (P : List ℕ) (a : Pass) (q : Position) → Memᴰ (reply a q) (replies G list K l μ P) → first_moves a ≡ move_of a ∷ []
       reply_move K l μ P a q i =
           let w = moves_at G (host_turn K l μ P) q (some a) (replies_are G list law K l μ P a q i) in
-          let e : w.0 ≡ a = (let d = w.1 in cc) in
-          subst (λ (z : Pass). first_moves z ≡ move_of z ∷ []) e w.2
+          let e : w.0 ≡ a = cc in
+          rw e at w.2
 
       -- a play after a reply of a list
       after_some : (plays : Position → List Played) (rs : List Reply) (y : Played) → Memᴰ y (after_each plays rs) → (a : Pass) × (q : Position) × (x : Played) × Memᴰ (reply a q) rs × (y ≡ after a x)
-      after_some plays [] y i = absurd (Memᴰ.not-nil i)
-      after_some plays (reply a q ∷ rs) y i = go (Memᴰ.append_cases (map (after a) (plays q)) i) (λ j. after_some plays rs y j)
-        where
-          go : Memᴰ y (map (after a) (plays q)) ⊎ Memᴰ y (after_each plays rs) → (Memᴰ y (after_each plays rs) → (b : Pass) × (r : Position) × (x : Played) × Memᴰ (reply b r) rs × (y ≡ after b x)) → (b : Pass) × (r : Position) × (x : Played) × Memᴰ (reply b r) (reply a q ∷ rs) × (y ≡ after b x)
-          go (inl j) more = let w = Memᴰ.of_map (after a) (plays q) j in (a, q, w.0, Memᴰ.head refl, sym w.2)
-          go (inr j) more = let w = more j in (w.0, w.1, w.2, Memᴰ.tail w.3, w.4)
+      after_some plays [] y i = elim i [ ]
+      after_some plays (reply a q ∷ rs) y i =
+          ⊎_elim (λ j. let w = Memᴰ.of_map (after a) (plays q) j in (a, q, w.0, Memᴰ.head refl, sym w.2))
+          (λ j. let w = after_some plays rs y j in (w.0, w.1, w.2, Memᴰ.tail w.3, w.4)) (Memᴰ.append_cases (map (after a) (plays q)) i)
 
       after_moves : (a : Pass) (x : Played) → first_moves a ≡ move_of a ∷ [] → moves_of (after a x) ≡ move_of a ∷ moves_of x
       after_moves a (played x e s) one = moves_first a x ∙ ap (λ z. z ++ host_moves x) one
@@ -326,11 +313,11 @@ module _ (list : WordList) where
               }
 
       turn_ascends : (left t : ℕ) (K : List Pending) (l : ℕ) (μ : Memory) (P : List ℕ) → t < G.bounds.steps → RestAscends left (suc t) → (rs : List Reply) → Ascending (ReplyBefore P) rs → ((a : Pass) (q : Position) → Memᴰ (reply a q) rs → Memᴰ (reply a q) (replies G list K l μ P)) → Ascending (PlaysBefore (host_turn K l μ P) t) (at_turn (plays_from G list left (suc t)) t rs)
-      turn_ascends left t K l μ P lt rest [] up sub = ((λ y i. absurd (Memᴰ.not-nil i)), tt)
+      turn_ascends left t K l μ P lt rest [] up sub = ((λ y i. elim i [ ]), tt)
       turn_ascends left t K l μ P lt rest (r ∷ rs) up sub = each_ascends left t K l μ P lt rest (r ∷ rs) up sub
 
       plays_ascend : (left t : ℕ) → left + t ≡ G.bounds.steps → RestAscends left t
-      plays_ascend zero t sum p = ((λ y i. absurd (Memᴰ.not-nil i)), tt)
+      plays_ascend zero t sum p = ((λ y i. elim i [ ]), tt)
       plays_ascend (suc left) t sum (library_runs K M μ P) = next_ascends left t (library_runs K M μ P) (library_next G K M μ P) (omega arith) (next_so G K M μ P) (plays_ascend left (suc t) (omega arith))
       plays_ascend (suc left) t sum (host_turn K l μ P) = turn_ascends left t K l μ P (omega arith) (plays_ascend left (suc t) (omega arith)) (replies G list K l μ P) (replies_ascend law K l μ P) (λ a q i. i)
 

@@ -1,6 +1,8 @@
 -- Typed positions: each step of the game keeps them typed and adds at most four names, and none is stuck.
-use Rattle.std.proofs.Common.{◌≡◌, ℕ, zero, suc, ◌+◌, ◌*◌, ◌<◌, ◌≤◌, Bool, true, false, ◌⊎◌, List, [], ◌∷◌, ◌++◌, length, set, sym, refl, ap, ◌∙◌, subst, inl, inr, arith, length-append}
+use Rattle.std.proofs.Common.{◌≡◌, ℕ, suc, ◌+◌, ◌*◌, ◌<◌, ◌≤◌, Bool, true, false, List, [], ◌∷◌, ◌++◌, length, sym, refl, ap, ◌∙◌, subst, inl, inr, arith, length-append}
+use Rattle.std.proofs.Math.Logic.{⊎_elim}
 use mathlib.Core.Option.{Option, none, some}
+use Rattle.std.specs.List.{AllZip}
 use Rattle.std.proofs.str.Laws.{order}
 use Rattle.arithmetic.specs.Meaning.{Meaning, Closed}
 use Rattle.rows.specs.Types.{Tree, leaves, unit as unit_type, int as int_type, pair as pair_type, fun as function_type}
@@ -10,7 +12,7 @@ use Rattle.rules.specs.Memory.{Entry, host_name, library_name, Memory, at}
 use Rattle.rules.specs.Steps.{State, ◌∣◌, ◌⊢◌⟶◌}
 use Rattle.rules.specs.Steps as step
 use Rattle.rules.specs.Stepping.{Redex, ⌈◌⌉, Parts, value, redex, neither, parts, contract, reading, asserting, calling}
-use Rattle.rules.specs.Stepping.{lam!, let!, op!, fst!, snd!, ite!, get!, put!, assert!, call!, leave! }
+use Rattle.rules.specs.Stepping.{get!, assert!, call! }
 use Rattle.rules.specs.Game.{Game, Pending, library_waits, host_waits, Position, library_runs, host_turn, Pass, Says, ◌⊢◌─◌⟹◌, Fails, TooDeep}
 use Rattle.rules.specs.Game as rule
 use Rattle.rules.specs.Plays.{Run, Ends, Ending}
@@ -19,6 +21,7 @@ use Rattle.rules.specs.Enumeration.{Next, goes_on, hands, fails, deep, no_step, 
 use Rattle.rules.specs.Laws.{GoesOn, names_at}
 use Rattle.rules.proofs.Exact.{parts_are, MadeOf}
 use Rattle.rules.proofs.Nexts.{IsSo, next_so}
+use Rattle.rules.proofs.Places.{at_here, at_more, across, back, set_at, push, as_long, weaker}
 use Rattle.rules.proofs.Typed.{Typed, Grows, weaken, Takes, plugged, Functions, Fine, fine, body_replaced}
 
 -- a type and the types in it have at most four leaves
@@ -34,15 +37,6 @@ few_leaves int_type h = omega arith
 few_leaves (pair_type θ θ') h = h.0
 few_leaves (function_type θ θ') h = omega arith
 
-at_last : {X : Type 0} (xs : List X) (x : X) → at (xs ++ (x ∷ [])) (length xs) ≡ some x
-at_last [] x = refl
-at_last (y ∷ xs) x = at_last xs x
-
-at_more : {X : Type 0} (xs ys : List X) (n : ℕ) (x : X) → at xs n ≡ some x → at (xs ++ ys) n ≡ some x
-at_more [] ys n x e = let z : ◌≡◌ {A = ℕ} 0 1 = cc in absurd (omega arith)
-at_more (y ∷ xs) ys zero x e = e
-at_more (y ∷ xs) ys (suc n) x e = at_more xs ys n x e
-
 module _ (V : ℕ → Tree) (Γ : List Tree) (A : Meaning) where
   abbrev pub EntryOk : List Tree → Entry → Tree → Type 0
   EntryOk Σ (host_name ρ σ) θ = (θ ≡ function_type ρ σ) × Small ρ × Small σ
@@ -50,88 +44,41 @@ module _ (V : ℕ → Tree) (Γ : List Tree) (A : Meaning) where
 
   -- what stands behind each name has its type, and so has the value of each global
   abbrev pub EntriesOk : List Tree → List Entry → List Tree → Type 0
-  EntriesOk Σ [] [] = Unit {0}
-  EntriesOk Σ [] (θ ∷ θs) = ⊥
-  EntriesOk Σ (e ∷ es) [] = ⊥
-  EntriesOk Σ (e ∷ es) (θ ∷ θs) = EntryOk Σ e θ × EntriesOk Σ es θs
+  EntriesOk Σ = AllZip (EntryOk Σ)
+
+  abbrev pub GlobalOk : List Tree → Value → Tree → Type 0
+  GlobalOk Σ v θ = Typed V Γ A Σ [] ⌊ v ⌋ θ
 
   abbrev pub GlobalsOk : List Tree → List Value → List Tree → Type 0
-  GlobalsOk Σ [] [] = Unit {0}
-  GlobalsOk Σ [] (θ ∷ θs) = ⊥
-  GlobalsOk Σ (v ∷ vs) [] = ⊥
-  GlobalsOk Σ (v ∷ vs) (θ ∷ θs) = Typed V Γ A Σ [] ⌊ v ⌋ θ × GlobalsOk Σ vs θs
+  GlobalsOk Σ = AllZip (GlobalOk Σ)
 
   abbrev pub MemoryOk : List Tree → Memory → Type 0
   MemoryOk Σ μ = EntriesOk Σ μ.names Σ × GlobalsOk Σ μ.globals Γ
-
-  entries_length : (Σ : List Tree) (es : List Entry) (θs : List Tree) → EntriesOk Σ es θs → length es ≡ length θs
-  entries_length Σ [] [] h = refl
-  entries_length Σ [] (θ ∷ θs) h = absurd h
-  entries_length Σ (e ∷ es) [] h = absurd h
-  entries_length Σ (e ∷ es) (θ ∷ θs) h = ap suc (entries_length Σ es θs h.1)
-
-  entry_at : (Σ : List Tree) (es : List Entry) (θs : List Tree) (m : ℕ) (e : Entry) → EntriesOk Σ es θs → at es m ≡ some e → (θ : Tree) × (at θs m ≡ some θ) × EntryOk Σ e θ
-  entry_at Σ [] θs m e h d = let z : ◌≡◌ {A = ℕ} 0 1 = cc in absurd (omega arith)
-  entry_at Σ (f ∷ es) [] m e h d = absurd h
-  entry_at Σ (f ∷ es) (θ ∷ θs) zero e h d = let same : f ≡ e = cc in (θ, refl, subst (λ (x : Entry). EntryOk Σ x θ) same h.0)
-  entry_at Σ (f ∷ es) (θ ∷ θs) (suc m) e h d = entry_at Σ es θs m e h.1 d
-
-  type_at : (Σ : List Tree) (es : List Entry) (θs : List Tree) (m : ℕ) (θ : Tree) → EntriesOk Σ es θs → at θs m ≡ some θ → (e : Entry) × (at es m ≡ some e) × EntryOk Σ e θ
-  type_at Σ es [] m θ h d = let z : ◌≡◌ {A = ℕ} 0 1 = cc in absurd (omega arith)
-  type_at Σ [] (ρ ∷ θs) m θ h d = absurd h
-  type_at Σ (e ∷ es) (ρ ∷ θs) zero θ h d = let same : ρ ≡ θ = cc in (e, refl, subst (λ (x : Tree). EntryOk Σ e x) same h.0)
-  type_at Σ (e ∷ es) (ρ ∷ θs) (suc m) θ h d = type_at Σ es θs m θ h.1 d
 
   entry_function : (Σ : List Tree) (e : Entry) (θ : Tree) → EntryOk Σ e θ → (ρ : Tree) × (σ : Tree) × (θ ≡ function_type ρ σ)
   entry_function Σ (host_name ρ σ) θ h = (ρ, σ, h.0)
   entry_function Σ (library_name x ρ M) θ h = (ρ, h.0, h.1)
 
   functions : (Σ : List Tree) (es : List Entry) → EntriesOk Σ es Σ → Functions V Γ A Σ
-  functions Σ es h m θ d = let x = type_at Σ es Σ m θ h d in entry_function Σ x.0 θ x.2
+  functions Σ es h m θ d = let x = back (EntryOk Σ) es Σ m θ h d in entry_function Σ x.0 θ x.2
 
   pub entry_grow : (Σ Σ' : List Tree) → Grows V Γ A Σ Σ' → (e : Entry) (θ : Tree) → EntryOk Σ e θ → EntryOk Σ' e θ
   entry_grow Σ Σ' g (host_name ρ σ) θ h = h
   entry_grow Σ Σ' g (library_name x ρ M) θ h = (h.0, h.1, h.2, weaken V Γ A Σ Σ' (x ∷ []) (x ∷ []) g (λ y i. i) M h.0 h.3)
 
-  entries_grow : (Σ Σ' : List Tree) → Grows V Γ A Σ Σ' → (es : List Entry) (θs : List Tree) → EntriesOk Σ es θs → EntriesOk Σ' es θs
-  entries_grow Σ Σ' g [] [] h = tt
-  entries_grow Σ Σ' g [] (θ ∷ θs) h = h
-  entries_grow Σ Σ' g (e ∷ es) [] h = h
-  entries_grow Σ Σ' g (e ∷ es) (θ ∷ θs) h = (entry_grow Σ Σ' g e θ h.0, entries_grow Σ Σ' g es θs h.1)
-
   pub globals_grow : (Σ Σ' : List Tree) → Grows V Γ A Σ Σ' → (vs : List Value) (θs : List Tree) → GlobalsOk Σ vs θs → GlobalsOk Σ' vs θs
-  globals_grow Σ Σ' g [] [] h = tt
-  globals_grow Σ Σ' g [] (θ ∷ θs) h = h
-  globals_grow Σ Σ' g (v ∷ vs) [] h = h
-  globals_grow Σ Σ' g (v ∷ vs) (θ ∷ θs) h = (weaken V Γ A Σ Σ' [] [] g (λ y i. i) ⌊ v ⌋ θ h.0, globals_grow Σ Σ' g vs θs h.1)
-
-  pub entries_push : (Σ : List Tree) (es : List Entry) (θs : List Tree) (e : Entry) (θ : Tree) → EntriesOk Σ es θs → EntryOk Σ e θ → EntriesOk Σ (es ++ (e ∷ [])) (θs ++ (θ ∷ []))
-  entries_push Σ [] [] e θ h k = (k, tt)
-  entries_push Σ [] (ρ ∷ θs) e θ h k = absurd h
-  entries_push Σ (f ∷ es) [] e θ h k = absurd h
-  entries_push Σ (f ∷ es) (ρ ∷ θs) e θ h k = (h.0, entries_push Σ es θs e θ h.1 k)
+  globals_grow Σ Σ' g = weaker (GlobalOk Σ) (GlobalOk Σ') (λ v θ h. weaken V Γ A Σ Σ' [] [] g (λ y i. i) ⌊ v ⌋ θ h)
 
   pub grows_push : (Σ : List Tree) (θ : Tree) → Grows V Γ A Σ (Σ ++ (θ ∷ []))
   grows_push Σ θ m ρ d = at_more Σ (θ ∷ []) m ρ d
 
   -- one name more
   pub with_one : (Σ : List Tree) (es : List Entry) (e : Entry) (θ : Tree) → EntriesOk Σ es Σ → EntryOk Σ e θ → EntriesOk (Σ ++ (θ ∷ [])) (es ++ (e ∷ [])) (Σ ++ (θ ∷ []))
-  with_one Σ es e θ h k = entries_grow Σ (Σ ++ (θ ∷ [])) (grows_push Σ θ) (es ++ (e ∷ [])) (Σ ++ (θ ∷ [])) (entries_push Σ es Σ e θ h k)
+  with_one Σ es e θ h k =
+      weaker (EntryOk Σ) (EntryOk (Σ ++ (θ ∷ []))) (entry_grow Σ (Σ ++ (θ ∷ [])) (grows_push Σ θ)) (es ++ (e ∷ [])) (Σ ++ (θ ∷ [])) (push (EntryOk Σ) es Σ e θ h k)
 
   pub new_type : (Σ : List Tree) (es : List Entry) (θ : Tree) → EntriesOk Σ es Σ → at (Σ ++ (θ ∷ [])) (length es) ≡ some θ
-  new_type Σ es θ h = subst (λ (n : ℕ). at (Σ ++ (θ ∷ [])) n ≡ some θ) (sym (entries_length Σ es Σ h)) (at_last Σ θ)
-
-  global_at : (Σ : List Tree) (vs : List Value) (θs : List Tree) (r : ℕ) (θ : Tree) → GlobalsOk Σ vs θs → at θs r ≡ some θ → (v : Value) × (at vs r ≡ some v) × Typed V Γ A Σ [] ⌊ v ⌋ θ
-  global_at Σ vs [] r θ h d = let z : ◌≡◌ {A = ℕ} 0 1 = cc in absurd (omega arith)
-  global_at Σ [] (ρ ∷ θs) r θ h d = absurd h
-  global_at Σ (v ∷ vs) (ρ ∷ θs) zero θ h d = let same : ρ ≡ θ = cc in (v, refl, subst (λ (x : Tree). Typed V Γ A Σ [] ⌊ v ⌋ x) same h.0)
-  global_at Σ (v ∷ vs) (ρ ∷ θs) (suc r) θ h d = global_at Σ vs θs r θ h.1 d
-
-  global_set : (Σ : List Tree) (vs : List Value) (θs : List Tree) (r : ℕ) (θ : Tree) (v : Value) → GlobalsOk Σ vs θs → at θs r ≡ some θ → Typed V Γ A Σ [] ⌊ v ⌋ θ → GlobalsOk Σ (set vs r v) θs
-  global_set Σ vs [] r θ v h d k = let z : ◌≡◌ {A = ℕ} 0 1 = cc in absurd (omega arith)
-  global_set Σ [] (ρ ∷ θs) r θ v h d k = absurd h
-  global_set Σ (w ∷ vs) (ρ ∷ θs) zero θ v h d k = let same : ρ ≡ θ = cc in (subst (λ (x : Tree). Typed V Γ A Σ [] ⌊ v ⌋ x) (sym same) k, h.1)
-  global_set Σ (w ∷ vs) (ρ ∷ θs) (suc r) θ v h d k = (h.0, global_set Σ vs θs r θ v h.1 d k)
+  new_type Σ es θ h = rw (← as_long (EntryOk Σ) es Σ h) at (at_here Σ θ [])
 
   -- a step of the library's own keeps the type, and adds at most one name
   abbrev StateOk : List Tree → Tree → State → Type 0
@@ -162,31 +109,30 @@ module _ (V : ℕ → Tree) (Γ : List Tree) (A : Meaning) where
   preserved closed Σ θ c d (step.first_part E v w {μ}) h = same_memory Σ θ E (fst (tuple ⌊ v ⌋ ⌊ w ⌋)) ⌊ v ⌋ μ h.0 h.1 (λ ρ k. left ρ k)
     where
       left : (ρ : Tree) → (σ : Tree) × ((a : Tree) × (b : Tree) × (pair_type ρ σ ≡ pair_type a b) × Typed V Γ A Σ [] ⌊ v ⌋ a × Typed V Γ A Σ [] ⌊ w ⌋ b) → Typed V Γ A Σ [] ⌊ v ⌋ ρ
-      left ρ k = let e = k.1.2 in let same : k.1.0 ≡ ρ = cc in subst (λ (x : Tree). Typed V Γ A Σ [] ⌊ v ⌋ x) same k.1.3
+      left ρ k = let same : k.1.0 ≡ ρ = cc in rw same at k.1.3
   preserved closed Σ θ c d (step.second_part E v w {μ}) h = same_memory Σ θ E (snd (tuple ⌊ v ⌋ ⌊ w ⌋)) ⌊ w ⌋ μ h.0 h.1 (λ ρ k. right ρ k)
     where
       right : (ρ : Tree) → (σ : Tree) × ((a : Tree) × (b : Tree) × (pair_type σ ρ ≡ pair_type a b) × Typed V Γ A Σ [] ⌊ v ⌋ a × Typed V Γ A Σ [] ⌊ w ⌋ b) → Typed V Γ A Σ [] ⌊ w ⌋ ρ
-      right ρ k = let e = k.1.2 in let same : k.1.1 ≡ ρ = cc in subst (λ (x : Tree). Typed V Γ A Σ [] ⌊ w ⌋ x) same k.1.4
+      right ρ k = let same : k.1.1 ≡ ρ = cc in rw same at k.1.4
   preserved closed Σ θ c d (step.if_true E i M N {μ} e) h = same_memory Σ θ E (ite (num i) M N) M μ h.0 h.1 (λ ρ k. k.1)
   preserved closed Σ θ c d (step.if_false E i M N {μ} e) h = same_memory Σ θ E (ite (num i) M N) N μ h.0 h.1 (λ ρ k. k.2)
   preserved closed Σ θ c d (step.read E r v {μ} e) h = same_memory Σ θ E (get r) ⌊ v ⌋ μ h.0 h.1 (λ ρ k. held ρ k)
     where
       held : (ρ : Tree) → at Γ r ≡ some ρ → Typed V Γ A Σ [] ⌊ v ⌋ ρ
       held ρ k =
-          let g = global_at Σ μ.globals Γ r ρ h.0.1 k in
-          let f : some g.0 ≡ some v = sym g.1 ∙ e in
+          let g = back (GlobalOk Σ) μ.globals Γ r ρ h.0.1 k in
           let same : g.0 ≡ v = cc in
-          subst (λ (x : Value). Typed V Γ A Σ [] ⌊ x ⌋ ρ) same g.2
+          rw same at g.2
   preserved closed Σ θ c d (step.write E r v {μ}) h =
       let p = plugged V Γ A Σ E (put r ⌊ v ⌋) θ h.1 in
       let k = p.1 in
-      (Σ, (λ m ρ e. e), ((h.0.0, global_set Σ μ.globals Γ r k.1 v h.0.1 k.2 k.3), p.2 Σ (λ m ρ e. e) ⟨⟩ k.0), omega arith)
+      (Σ, (λ m ρ e. e), ((h.0.0, set_at (GlobalOk Σ) μ.globals Γ r v k.1 h.0.1 k.2 k.3), p.2 Σ (λ m ρ e. e) ⟨⟩ k.0), omega arith)
   preserved closed Σ θ c d (step.asserted E i {μ} e) h = same_memory Σ θ E (assert (num i)) ⟨⟩ μ h.0 h.1 (λ ρ k. k.0)
   preserved closed Σ θ c d (step.enter E m x ρ M v {μ} e) h =
       let p = plugged V Γ A Σ E (app (meth m) ⌊ v ⌋) θ h.1 in
       let k = p.1 in
-      let f = entry_at Σ μ.names Σ m (library_name x ρ M) h.0.0 e in
-      let g : some f.0 ≡ some (function_type k.0 p.0) = sym f.1 ∙ k.1 in
+      let f = across (EntryOk Σ) μ.names Σ m (library_name x ρ M) h.0.0 e in
+      let g : some f.0 ≡ some (function_type k.0 p.0) = cc in
       let t : function_type k.0 p.0 ≡ function_type ρ f.2.0 = (let s : f.0 ≡ function_type k.0 p.0 = cc in sym s ∙ f.2.1) in
       (Σ, (λ n σ a. a), (h.0, p.2 Σ (λ n σ a. a) ⟪ M ⟨ v / x ⟩ ⟫ (inside k.0 p.0 ρ f.2.0 f.2.2 f.2.3 k.2 t)), omega arith)
     where
@@ -194,7 +140,7 @@ module _ (V : ℕ → Tree) (Γ : List Tree) (A : Meaning) where
       inside a b ρ σ is body arg t =
           let s : a ≡ V x = (let z : a ≡ ρ = cc in z ∙ is) in
           let u : σ ≡ b = cc in
-          body_replaced V Γ A Σ v x (subst (λ (y : Tree). Typed V Γ A Σ [] ⌊ v ⌋ y) s arg) M b (subst (λ (y : Tree). Typed V Γ A Σ (x ∷ []) M y) u body)
+          body_replaced V Γ A Σ v x (rw s at arg) M b (rw u at body)
   preserved closed Σ θ c d (step.leave E v {μ}) h =
       let p = plugged V Γ A Σ E ⟪ ⌊ v ⌋ ⟫ θ h.1 in
       (Σ, (λ m ρ e. e), (h.0, p.2 Σ (λ m ρ e. e) ⌊ v ⌋ p.1), omega arith)
@@ -210,13 +156,10 @@ module _ (V : ℕ → Tree) (Γ : List Tree) (A : Meaning) where
   PendingOk false Σ (library_waits m E ∷ K) = (ρ : Tree) × (σ : Tree) × (θ : Tree) × (at Σ m ≡ some (function_type ρ σ)) × Takes V Γ A Σ E σ θ × PendingOk true Σ K
 
   pending_grow : (Σ Σ' : List Tree) → Grows V Γ A Σ Σ' → (b : Bool) (K : List Pending) → PendingOk b Σ K → PendingOk b Σ' K
-  pending_grow Σ Σ' g true [] h = h
-  pending_grow Σ Σ' g false [] h = h
   pending_grow Σ Σ' g true (host_waits m l ∷ K) h = pending_grow Σ Σ' g false K h
-  pending_grow Σ Σ' g false (host_waits m l ∷ K) h = h
-  pending_grow Σ Σ' g true (library_waits m E ∷ K) h = h
   pending_grow Σ Σ' g false (library_waits m E ∷ K) h =
       (h.0, h.1, h.2, g m (function_type h.0 h.1) h.3, (λ Σ'' g' N k. h.4 Σ'' (λ n ρ d. g' n ρ (g n ρ d)) N k), pending_grow Σ Σ' g true K h.5)
+  pending_grow Σ Σ' g b K h = h
 
   abbrev pub PositionOk : Position → Type 0
   PositionOk (library_runs K M μ P) = (Σ : List Tree) × (θ : Tree) × MemoryOk Σ μ × Typed V Γ A Σ [] M θ × PendingOk true Σ K
@@ -236,10 +179,6 @@ module _ (V : ℕ → Tree) (Γ : List Tree) (A : Meaning) where
   abbrev FewMore : Position → Position → Type 0
   FewMore p q = length (names_at q) ≤ length (names_at p) + 4
 
-  -- a host name has one type
-  one_type : (Σ : List Tree) (m : ℕ) (θ ρ : Tree) → at Σ m ≡ some θ → at Σ m ≡ some ρ → θ ≡ ρ
-  one_type Σ m θ ρ d e = let s : some θ ≡ some ρ = sym d ∙ e in cc
-
 module _ (G : Game) (V : ℕ → Tree) (Γ : List Tree) (closed : Closed G.meaning) (small : (x : ℕ) → Small (V x)) where
   abbrev A : Meaning
   A = G.meaning
@@ -254,19 +193,18 @@ module _ (G : Game) (V : ℕ → Tree) (Γ : List Tree) (closed : Closed G.meani
       ((ok.0, ok.2, (k.1.0, k.0, ok.1, k.1.1, k.2, ok.4)), omega arith)
   step_ok p q b (rule.library_answers m l v) ok = ((ok.0, ok.2, ok.4), omega arith)
   step_ok p q b (rule.host_calls m x l θ M v R {K} {μ} {P} i lt h s) ok =
-      let e = entry_at V Γ A ok.0 μ.names ok.0 m (library_name x θ M) ok.1.0 h in
+      let e = across (EntryOk V Γ A ok.0) μ.names ok.0 m (library_name x θ M) ok.1.0 h in
       let few : Small θ = subst Small (sym e.2.2) (small x) in
       let k = said_typed V Γ A closed θ μ.names v R s ok.0 few ok.1.0 in
       let called : Typed V Γ A k.0 [] (app (meth m) ⌊ v ⌋) e.2.0 = (θ, k.1 m (function_type θ e.2.0) (e.1 ∙ ap some e.2.1), k.3) in
       ((k.0, e.2.0, (k.2, globals_grow V Γ A ok.0 k.0 k.1 μ.globals Γ ok.1.1), called, pending_grow V Γ A ok.0 k.0 k.1 false K ok.2), omega (arith, k.4, few_leaves θ few))
   step_ok p q b (rule.host_answers m l E θ θ' v R {K} {μ} {P} h s) ok =
       let w = ok.2 in
-      let e = entry_at V Γ A ok.0 μ.names ok.0 m (host_name θ θ') ok.1.0 h in
+      let e = across (EntryOk V Γ A ok.0) μ.names ok.0 m (host_name θ θ') ok.1.0 h in
       let few : Small θ' = e.2.2 in
       let k = said_typed V Γ A closed θ' μ.names v R s ok.0 few ok.1.0 in
-      let t : function_type w.0 w.1 ≡ function_type θ θ' = one_type V Γ A ok.0 m (function_type w.0 w.1) (function_type θ θ') w.3 (e.1 ∙ ap some e.2.0) in
       let r : θ' ≡ w.1 = cc in
-      let goes : Typed V Γ A k.0 [] (plug E ⌊ v ⌋) w.2 = w.4 k.0 k.1 ⌊ v ⌋ (subst (λ (y : Tree). Typed V Γ A k.0 [] ⌊ v ⌋ y) r k.3) in
+      let goes : Typed V Γ A k.0 [] (plug E ⌊ v ⌋) w.2 = w.4 k.0 k.1 ⌊ v ⌋ (rw (← r) k.3) in
       ((k.0, w.2, (k.2, globals_grow V Γ A ok.0 k.0 k.1 μ.globals Γ ok.1.1), goes, pending_grow V Γ A ok.0 k.0 k.1 true K w.5), omega (arith, k.4, few_leaves θ' few))
 
   pub run_ok : (p q : Position) (t u : ℕ) (trace : List Pass) → Run G p t trace q u → PositionOk V Γ A p → PositionOk V Γ A q × (length (names_at q) + 4 * t ≤ length (names_at p) + 4 * u)
@@ -282,45 +220,37 @@ module _ (G : Game) (V : ℕ → Tree) (Γ : List Tree) (closed : Closed G.meani
 
   -- a typed position is not stuck
   no_stuck_answer : (K : List Pending) (Σ : List Tree) (v : Value) (μ : Memory) (P : List ℕ) → PendingOk V Γ A true Σ K → answering K v μ P ≡ no_step → ⊥
-  no_stuck_answer [] Σ v μ P h e = h
-  no_stuck_answer (library_waits m E ∷ K) Σ v μ P h e = h
-  no_stuck_answer (host_waits m l ∷ K) Σ v μ P h e = let z : ◌≡◌ {A = ℕ} 0 1 = cc in omega arith
+  no_stuck_answer (host_waits m l ∷ K) Σ v μ P h e = cc
+  no_stuck_answer K Σ v μ P h e = h
 
   bounded_some : (b : Bool) (q : Position) → bounded b q ≡ no_step → ⊥
-  bounded_some true q e = let z : ◌≡◌ {A = ℕ} 0 1 = cc in omega arith
-  bounded_some false q e = let z : ◌≡◌ {A = ℕ} 0 1 = cc in omega arith
+  bounded_some true q e = cc
+  bounded_some false q e = cc
 
   module _ (K : List Pending) (E : Context) (μ : Memory) (P : List ℕ) where
     reading_some : (o : Option Value) (v : Value) → o ≡ some v → continued G K E (reading o μ) μ P ≡ no_step → ⊥
-    reading_some none v d e = let z : ◌≡◌ {A = ℕ} 0 1 = cc in omega arith
+    reading_some none v d e = cc
     reading_some (some w) v d e = bounded_some _ _ e
 
     asserting_some : (b : Bool) → continued G K E (asserting b μ) μ P ≡ no_step → ⊥
-    asserting_some true e = let z : ◌≡◌ {A = ℕ} 0 1 = cc in omega arith
+    asserting_some true e = cc
     asserting_some false e = bounded_some _ _ e
 
     calling_some : (o : Option Entry) (m : ℕ) (v : Value) (x : Entry) → o ≡ some x → continued G K E (calling o m v μ) μ P ≡ no_step → ⊥
-    calling_some none m v x d e = let z : ◌≡◌ {A = ℕ} 0 1 = cc in omega arith
-    calling_some (some (host_name θ θ')) m v x d e = let z : ◌≡◌ {A = ℕ} 0 1 = cc in omega arith
+    calling_some none m v x d e = cc
+    calling_some (some (host_name θ θ')) m v x d e = cc
     calling_some (some (library_name y θ M)) m v x d e = bounded_some _ _ e
 
     redex_some : (Σ : List Tree) (ρ : Tree) (r : Redex) → MemoryOk V Γ A Σ μ → Typed V Γ A Σ [] ⌈ r ⌉ ρ → continued G K E (contract A r μ) μ P ≡ no_step → ⊥
-    redex_some Σ ρ (lam! x θ M) h k e = bounded_some _ _ e
-    redex_some Σ ρ (let! x v M) h k e = bounded_some _ _ e
-    redex_some Σ ρ (op! o i j) h k e = bounded_some _ _ e
-    redex_some Σ ρ (fst! v w) h k e = bounded_some _ _ e
-    redex_some Σ ρ (snd! v w) h k e = bounded_some _ _ e
-    redex_some Σ ρ (ite! i M N) h k e = bounded_some _ _ e
-    redex_some Σ ρ (get! r) h k e = let g = global_at V Γ A Σ μ.globals Γ r ρ h.1 k in reading_some (at μ.globals r) g.0 g.1 e
-    redex_some Σ ρ (put! r v) h k e = bounded_some _ _ e
+    redex_some Σ ρ (get! r) h k e = let g = back (GlobalOk V Γ A Σ) μ.globals Γ r ρ h.1 k in reading_some (at μ.globals r) g.0 g.1 e
     redex_some Σ ρ (assert! i) h k e = asserting_some (A.zero i) e
-    redex_some Σ ρ (call! m v) h k e = let g = type_at V Γ A Σ μ.names Σ m (function_type k.0 ρ) h.0 k.1 in calling_some (at μ.names m) m v g.0 g.1 e
-    redex_some Σ ρ (leave! v) h k e = bounded_some _ _ e
+    redex_some Σ ρ (call! m v) h k e = let g = back (EntryOk V Γ A Σ) μ.names Σ m (function_type k.0 ρ) h.0 k.1 in calling_some (at μ.names m) m v g.0 g.1 e
+    redex_some Σ ρ r h k e = bounded_some _ _ e
 
   parts_some : (K : List Pending) (M : Term) (μ : Memory) (P : List ℕ) (Σ : List Tree) (θ : Tree) (s : Parts) → MadeOf M s → MemoryOk V Γ A Σ μ → Typed V Γ A Σ [] M θ → Fine V Γ A Σ θ s → PendingOk V Γ A true Σ K → next_by G K s μ P ≡ no_step → ⊥
   parts_some K M μ P Σ θ (value v) is h k f w e = no_stuck_answer K Σ v μ P w e
   parts_some K M μ P Σ θ (redex E r) is h k f w e =
-      let p = plugged V Γ A Σ E ⌈ r ⌉ θ (subst (λ (X : Term). Typed V Γ A Σ [] X θ) (sym is) k) in
+      let p = plugged V Γ A Σ E ⌈ r ⌉ θ (rw (← is) at k) in
       redex_some K E μ P Σ p.0 r h p.1 e
   parts_some K M μ P Σ θ neither is h k f w e = f
 
@@ -340,8 +270,4 @@ module _ (G : Game) (V : ℕ → Tree) (Γ : List Tree) (closed : Closed G.meani
   within_goes (host_turn K l μ P) t lt ok = inl (play.turn, t, play.hands_over lt)
 
   pub typed_goes : (p : Position) (t : ℕ) → t ≤ G.bounds.steps → PositionOk V Γ A p → GoesOn G p t
-  typed_goes p t le ok = go (order t G.bounds.steps)
-    where
-      go : (t < G.bounds.steps) ⊎ (G.bounds.steps ≤ t) → GoesOn G p t
-      go (inl lt) = within_goes p t lt ok
-      go (inr ge) = inl (play.cut_by_steps, t, play.out_of_steps (omega arith))
+  typed_goes p t le ok = ⊎_elim (λ lt. within_goes p t lt ok) (λ ge. inl (play.cut_by_steps, t, play.out_of_steps (omega arith))) (order t G.bounds.steps)

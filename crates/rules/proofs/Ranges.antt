@@ -1,6 +1,6 @@
 -- Places in a list of all full plays count the full plays in a range.
-use Rattle.std.proofs.Common.{◌≡◌, ℕ, zero, suc, ◌+◌, ◌-◌, ◌<◌, ◌≤◌, ◌⊎◌, List, [], ◌∷◌, map, length, take, drop, sym, ap, ◌∙◌, subst, inl, inr, arith, length-drop, length-take}
-use mathlib.Core.List.Memᴰ
+use Rattle.std.proofs.Common.{◌≡◌, ℕ, zero, suc, ◌+◌, ◌-◌, ◌<◌, ◌≤◌, ◌⊎◌, List, [], ◌∷◌, map, take, drop, sym, ap, ◌∙◌, inl, inr, arith, length-drop, length-take}
+use Rattle.std.proofs.Math.Logic.{⊎_elim}
 use mathlib.Core.List.{Memᴰ}
 use mathlib.Core.Option.{Option, none, some}
 use Rattle.std.proofs.str.Laws.{order}
@@ -11,34 +11,17 @@ use Rattle.rules.specs.Plays.{Move}
 use Rattle.rules.specs.Enumeration.{Played, moves_of}
 use Rattle.rules.specs.Order.{Before, Ascending, WithoutRepetition, Counted}
 use Rattle.rules.specs.Ranges.{After, FullInRange, AllPlays, FullPlaysAreCounted}
-use Rattle.rules.proofs.Distinct.{no_repetition, listed_play, play_listed, counted_plays}
+use Rattle.rules.proofs.Distinct.{before_apart, no_repetition, listed_play, play_listed, counted_plays}
+use Rattle.rules.proofs.Places.{place, there, inside}
 use Rattle.rules.proofs.OneWay.{before_one_way}
 
 -- what stands at places of a list, and of a part of it
 module _ {X : Type 0} where
-  -- what stands in a list stands at a place
-  pub place : (x : X) (xs : List X) → Memᴰ x xs → (k : ℕ) × (at xs k ≡ some x)
-  place x [] i = absurd (Memᴰ.not-nil i)
-  place x (y ∷ xs) (Memᴰ.head e) = (0, ap some (sym e))
-  place x (y ∷ xs) (Memᴰ.tail i) = let w = place x xs i in (suc w.0, w.1)
-
-  -- what stands at a place stands in the list
-  there : (x : X) (xs : List X) (k : ℕ) → at xs k ≡ some x → Memᴰ x xs
-  there x [] k e = cc
-  there x (y ∷ xs) zero e = Memᴰ.head (cc)
-  there x (y ∷ xs) (suc k) e = Memᴰ.tail (there x xs k e)
-
-  -- where something stands, the list has a place
-  inside : (x : X) (xs : List X) (k : ℕ) → at xs k ≡ some x → k < length xs
-  inside x [] k e = cc
-  inside x (y ∷ xs) zero e = omega arith
-  inside x (y ∷ xs) (suc k) e = let h = inside x xs k e in omega arith
-
   -- in an ascending list the element at an earlier place comes before the one at a later place
   in_order_at : (R : X → X → Type 0) (xs : List X) → Ascending R xs → (i k : ℕ) (x y : X) → i < k → at xs i ≡ some x → at xs k ≡ some y → R x y
   in_order_at R [] up i k x y lt d e = cc
   in_order_at R (w ∷ xs) up zero zero x y lt d e = absurd (omega arith)
-  in_order_at R (w ∷ xs) up zero (suc k) x y lt d e = let s : w ≡ x = cc in subst (λ (z : X). R z y) s (up.0 y (there y xs k e))
+  in_order_at R (w ∷ xs) up zero (suc k) x y lt d e = let s : w ≡ x = cc in rw s at (up.0 y (there y xs k e))
   in_order_at R (w ∷ xs) up (suc i) zero x y lt d e = absurd (omega arith)
   in_order_at R (w ∷ xs) up (suc i) (suc k) x y lt d e = in_order_at R xs up.1 i k x y (omega arith) d e
 
@@ -60,7 +43,7 @@ module _ {X : Type 0} where
   -- what stands at a place behind the first s elements
   at_drop : (xs : List X) (s k : ℕ) → at (drop s xs) k ≡ at xs (s + k)
   at_drop xs zero k = let e : k ≡ 0 + k = omega arith in ap (at xs) e
-  at_drop [] (suc s) k = let e : suc (s + k) ≡ suc s + k = omega arith in ap (at {A = X} []) e
+  at_drop [] (suc s) k = cc
   at_drop (y ∷ xs) (suc s) k = let e : suc (s + k) ≡ suc s + k = omega arith in at_drop xs s k ∙ ap (at (y ∷ xs)) e
 
   -- the first n elements of a list without repetition are without repetition
@@ -86,19 +69,13 @@ module _ (G : Game) (list : WordList) (law : Listed G.meaning list) (plays : Lis
 
   -- a play that comes before another stands before it
   pub before_at : (i k : ℕ) (x y : List Move) → at xs i ≡ some x → at xs k ≡ some y → Before G list x y → i < k
-  before_at i k x y d e b = go (order i k)
-    where
-      go : (i < k) ⊎ (k ≤ i) → i < k
-      go (inl lt) = lt
-      go (inr le) = again (order k i)
-        where
-          again : (k < i) ⊎ (i ≤ k) → i < k
-          again (inl lt) = absurd (before_one_way G list law x y b (in_order_at (Before G list) xs up k i y x lt e d))
-          again (inr ge) =
-              let same : i ≡ k = omega arith in
-              let alike : some x ≡ some y = sym d ∙ ap (at xs) same ∙ e in
-              let one : x ≡ y = cc in
-              absurd (before_one_way G list law x y b (subst (λ (z : List Move). Before G list y z) (sym one) (subst (λ (z : List Move). Before G list z y) one b)))
+  before_at i k x y d e b =
+      ⊎_elim (λ lt. lt)
+      (λ le.
+      ⊎_elim (λ lt. absurd (before_one_way G list law x y b (in_order_at (Before G list) xs up k i y x lt e d)))
+      (λ ge.
+      let same : i ≡ k = omega arith in
+      absurd (before_apart G list law x y b (cc))) (order k i)) (order i k)
 
   -- the plays from place s up to place j, where s is the first place behind those that the range begins after
   module _ (s j : ℕ) (from : Option (List Move)) (to : List Move) (last : at xs j ≡ some to) (few : s ≤ suc j)
@@ -118,12 +95,9 @@ module _ (G : Game) (list : WordList) (law : Listed G.meaning list) (plays : Lis
         there moves part (w.0 - s) (at_drop (take (suc j) xs) s (w.0 - s) ∙ ap (at (take (suc j) xs)) e ∙ take_at xs (suc j) w.0 moves (omega arith) w.1)
       where
         up_to : (k : ℕ) → at xs k ≡ some moves → (moves ≡ to) ⊎ Before G list moves to → k ≤ j
-        up_to k e (inl same) = go (order j k)
-          where
-            go : (j < k) ⊎ (k ≤ j) → k ≤ j
-            go (inl lt) = let b = in_order_at (Before G list) xs up j k to moves lt last e in
-                absurd (before_one_way G list law to moves b (subst (λ (z : List Move). Before G list z to) (sym same) (subst (λ (z : List Move). Before G list to z) same b)))
-            go (inr le) = le
+        up_to k e (inl same) =
+            ⊎_elim (λ lt. let b = in_order_at (Before G list) xs up j k to moves lt last e in absurd (before_apart G list law to moves b (sym same)))
+            (λ le. le) (order j k)
         up_to k e (inr b) = let lt = before_at k j moves to e last b in omega arith
 
     -- each of them is a full play in the range
@@ -137,7 +111,6 @@ module _ (G : Game) (list : WordList) (law : Listed G.meaning list) (plays : Lis
         end k e (inl lt) high = inr (in_order_at (Before G list) xs up k j moves to lt e last)
         end k e (inr ge) high =
             let same : k ≡ j = omega arith in
-            let alike : some moves ≡ some to = sym e ∙ ap (at xs) same ∙ last in
             inl (cc)
 
     -- so they count the full plays in the range

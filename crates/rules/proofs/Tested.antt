@@ -1,5 +1,6 @@
 -- Texts that pass tests which can be computed are read, and their rows mount.
-use Rattle.std.proofs.Common.{◌≡◌, ℕ, zero, suc, ◌+◌, ◌^◌, ◌<◌, ◌≤◌, Bool, true, ◌&&◌, eqb, ltb, leb, ◌⊎◌, List, [], ◌∷◌, ◌++◌, length, take, replicate, Some, None, Ok, Err, Option, Result, sym, refl, ap, ◌∙◌, subst, inl, inr, append_assoc, append-nil, arith, length-set, ltb-true, eqb-true, leb-true}
+use Rattle.std.proofs.Common.{◌≡◌, ℕ, zero, suc, ◌+◌, ◌^◌, ◌<◌, Bool, true, ◌&&◌, eqb, ltb, leb, List, [], ◌∷◌, ◌++◌, length, take, replicate, Some, None, Ok, Err, Option, Result, sym, refl, ap, ◌∙◌, append_assoc, append-nil, arith, length-set, ltb-true, eqb-true, leb-true}
+use Rattle.std.proofs.Math.Logic.{⊎_elim}
 use lib.Signed.{mag}
 use Rattle.std.specs.List.{slice_get, AllByRecursion}
 use Rattle.std.specs.Option.{is_none}
@@ -10,7 +11,7 @@ use Rattle.faults.specs.declared.TypingFault.{TypingFault}
 use Rattle.text.specs.Slots.{Slot, literal, number, word, InRange}
 use Rattle.rows.specs.declared.forms.TermForm.{TermForm}
 use Rattle.rows.specs.declared.forms.Row.{Row}
-use Rattle.rows.specs.declared.forms.Row.TheVariants.{«Type» as TypeRow, Variable as VariableRow, Method as MethodRow, Global as GlobalRow, Term as TermRow}
+use Rattle.rows.specs.declared.forms.Row.TheVariants.{«Type» as TypeRow, Term as TermRow}
 use Rattle.rows.specs.declared.forms.Section.{Section}
 use Rattle.rows.specs.declared.forms.Section.TheVariants.{Types, Variables, Methods, Globals, Terms}
 use Rattle.rows.specs.declared.tally.Counts.{Counts}
@@ -47,10 +48,7 @@ in_range_tested (word z ∷ ss) e = let p = and_parts (ltb (mag z) (2 ^ 31)) (in
 -- the test that a type is not listed before
 abbrev new_test : List Row → Row → Bool
 new_test before (TypeRow n f) = is_none (first_of_form f before)
-new_test before (VariableRow n t) = true
-new_test before (MethodRow n f) = true
-new_test before (GlobalRow n t u) = true
-new_test before (TermRow n f) = true
+new_test before row = true
 
 -- the test that a row has no fault after the rows before it, of which there is a tally
 abbrev row_test : List Row → Counts → List ℕ → Row → Bool
@@ -69,18 +67,12 @@ no_such before (TypeRow n f) e h = go (first_of_form f before) refl e
     go : (o : Option ℕ) → first_of_form f before ≡ o → is_none o ≡ true → ⊥
     go None d g = not_found f before h.0 d (ap type_form_of (slice_get-get_or before h.0 (TypeRow h.1 f) h.2 ∙ ap Some h.3))
     go (Some k) d g = cc
-no_such before (VariableRow n t) e h = h
-no_such before (MethodRow n f) e h = h
-no_such before (GlobalRow n t u) e h = h
-no_such before (TermRow n f) e h = h
+no_such before row e h = h
 
 -- the table of leaves stays as long as it is
 leaves_long : (c : Counts) (table : List ℕ) (s : Section) (n : ℕ) → length table ≡ 64 → length (leaves_with c table s n) ≡ 64
 leaves_long c table Types n e = length-set table c.types n ∙ e
-leaves_long c table Variables n e = e
-leaves_long c table Methods n e = e
-leaves_long c table Globals n e = e
-leaves_long c table Terms n e = e
+leaves_long c table s n e = e
 
 -- the tally of rows without fault
 pub record Good (rows : List Row) (c : Counts) (table : List ℕ) : Type 0 where
@@ -121,11 +113,11 @@ counts_after c (row ∷ rows) = counts_after (counts_with c (section row)) rows
 
 -- where the test holds, the tally goes on to the end
 rows_tested : (before : List Row) (c : Counts) (table : List ℕ) (rows : List Row) → Good before c table → rows_test before c table rows ≡ true → (more : List ℕ) × Good (before ++ rows) (counts_after c rows) more
-rows_tested before c table [] good e = (table, subst (λ (rs : List Row). Good rs c table) (sym (append-nil before)) good)
+rows_tested before c table [] good e = (table, rw (← append-nil before) at good)
 rows_tested before c table (row ∷ rows) good e =
     let p = and_parts (row_test before c table row) _ e in
     let w = rows_tested (before ++ (row ∷ [])) _ _ rows (row_tested before c table row good p.0) p.1 in
-    (w.0, subst (λ (rs : List Row). Good rs (counts_after c (row ∷ rows)) w.0) (append_assoc before (row ∷ []) rows) w.1)
+    (w.0, rw (append_assoc before (row ∷ []) rows) at w.1)
 
 -- a test at each place below n
 abbrev all_places : ℕ → (ℕ → Bool) → Bool
@@ -135,11 +127,9 @@ all_places (suc n) holds = holds n && all_places n holds
 -- where it holds, the test holds at each place
 all_placed : (n : ℕ) (holds : ℕ → Bool) → all_places n holds ≡ true → (t : ℕ) → t < n → holds t ≡ true
 all_placed zero holds e t lt = absurd (omega arith)
-all_placed (suc n) holds e t lt = go (order t n) (λ l. all_placed n holds (and_parts (holds n) (all_places n holds) e).1 t l)
-  where
-    go : (t < n) ⊎ (n ≤ t) → (t < n → holds t ≡ true) → holds t ≡ true
-    go (inl l) before = before l
-    go (inr g) before = let same : t ≡ n = omega arith in ap holds same ∙ (and_parts (holds n) (all_places n holds) e).0
+all_placed (suc n) holds e t lt =
+    let p = and_parts (holds n) (all_places n holds) e in
+    ⊎_elim (λ l. all_placed n holds p.1 t l) (λ le. let same : t ≡ n = omega arith in ap holds same ∙ p.0) (order t n)
 
 -- the type of a term, where it is found, goes on to what follows
 abbrev found : Result ℕ TypingFault → List ℕ → (ℕ → List ℕ) → List ℕ
@@ -170,7 +160,7 @@ words_test (s ∷ sets) = ltb s (2 ^ 64) && words_test sets
 -- where the test holds, each set is a word
 words_tested : (sets : List ℕ) → words_test sets ≡ true → Words sets
 words_tested [] e t s h = cc
-words_tested (x ∷ sets) e zero s h = let same : x ≡ s = cc in subst (λ (n : ℕ). n < 2 ^ 64) same (ltb-true x (2 ^ 64) (and_parts (ltb x (2 ^ 64)) (words_test sets) e).0)
+words_tested (x ∷ sets) e zero s h = let same : x ≡ s = cc in rw same at (ltb-true x (2 ^ 64) (and_parts (ltb x (2 ^ 64)) (words_test sets) e).0)
 words_tested (x ∷ sets) e (suc t) s h = words_tested sets (and_parts (ltb x (2 ^ 64)) (words_test sets) e).1 t s h
 
 module _ (rows : List Row) (known sets : List ℕ) where
@@ -180,11 +170,9 @@ module _ (rows : List Row) (known sets : List ℕ) where
 
   -- where the test holds, the terms are typed so
   typed_tested : typed_test ≡ true → TypedBy rows known
-  typed_tested e t = go (order t (length known))
-    where
-      go : (t < length known) ⊎ (length known ≤ t) → types_term rows (take t known) (slice_get known t) (term_at rows t) ≡ true
-      go (inl lt) = all_placed (length known) (λ u. types_term rows (take u known) (slice_get known u) (term_at rows u)) e t lt
-      go (inr ge) = ap (λ (o : Option ℕ). types_term rows (take t known) o (term_at rows t)) (slice_get_past known t ge)
+  typed_tested e t =
+      ⊎_elim (λ lt. all_placed (length known) (λ u. types_term rows (take u known) (slice_get known u) (term_at rows u)) e t lt)
+      (λ le. ap (λ (o : Option ℕ). types_term rows (take t known) o (term_at rows t)) (slice_get_past known t le)) (order t (length known))
 
   -- the test that each term has the free variables that are known
   abbrev scoped_test : Bool
@@ -204,7 +192,7 @@ module _ (rows : List Row) (known sets : List ℕ) where
   -- where the test holds, each row stands
   stands_tested : (more : List Row) → stands_test more ≡ true → (j : ℕ) (row : Row) → slice_get more j ≡ Some row → stands rows known sets row ≡ true
   stands_tested [] e j row h = cc
-  stands_tested (r ∷ more) e zero row h = let same : r ≡ row = cc in subst (λ (x : Row). stands rows known sets x ≡ true) same (and_parts (stands rows known sets r) (stands_test more) e).0
+  stands_tested (r ∷ more) e zero row h = let same : r ≡ row = cc in rw same at (and_parts (stands rows known sets r) (stands_test more) e).0
   stands_tested (r ∷ more) e (suc j) row h = stands_tested more (and_parts (stands rows known sets r) (stands_test more) e).1 j row h
 
   -- the test that rows without fault mount
@@ -247,11 +235,8 @@ all_counted c = c.types + c.variables + c.methods + c.globals + c.terms
 -- the forms of the terms among rows
 abbrev forms : List Row → List TermForm
 forms [] = []
-forms (TypeRow n f ∷ rows) = forms rows
-forms (VariableRow n t ∷ rows) = forms rows
-forms (MethodRow n f ∷ rows) = forms rows
-forms (GlobalRow n t e ∷ rows) = forms rows
 forms (TermRow n f ∷ rows) = f ∷ forms rows
+forms (row ∷ rows) = forms rows
 
 -- a text is short, its rows have no fault, and they mount
 abbrev pub text_test : List ℕ → List Row → Bool

@@ -1,43 +1,30 @@
 -- Two plays with the same listing are the same play.
-use Rattle.std.proofs.Common.{◌≡◌, ℕ, zero, suc, ◌<◌, ◌≤◌, true, List, [], ◌∷◌, ◌++◌, length, ℤ, Some, codes, decimal, sym, refl, ap, ◌∙◌, subst, append_assoc, arith, length-append, w32, SFits}
+use Rattle.std.proofs.Common.{◌≡◌, ℕ, suc, ◌≤◌, true, List, [], ◌∷◌, ◌++◌, length, ℤ, Some, codes, decimal, sym, refl, ap, ◌∙◌, subst, append_assoc, arith, length-append, w32, SFits}
 use mathlib.Core.Option.{some}
 use Rattle.std.specs.Fmt.{signed_decimal}
 use Rattle.std.specs.List.{AllByRecursion}
 use Rattle.std.proofs.ByRecursion.{All-append}
+use Rattle.std.proofs.lemmas.List.{append_cancel_left}
 use Rattle.text.specs.Slots
 use Rattle.text.specs.Slots.{Lacks, Free, commas, line_of}
 use Rattle.text.specs.Reading.{number_of, word_of}
+use Rattle.text.proofs.Forms.{commas_lack}
 use Rattle.text.proofs.Laws.{commas_same, written_free, number_written, word_written}
 use Rattle.arithmetic.specs.Meaning.{Meaning, Closed}
-use Rattle.rows.specs.Types.{Tree, unit as unit_type, int as int_type, pair as pair_type, fun as function_type}
-use Rattle.rules.specs.Terms.{Value, unit, word, name, pair}
-use Rattle.rules.specs.Memory.{Entry, host_name, library_name, Memory, at}
+use Rattle.reader.proofs.Unique.{first_feed}
+use Rattle.rows.specs.Types.{Tree}
+use Rattle.rules.specs.Terms.{Value}
+use Rattle.rules.specs.Memory.{Entry, host_name, Memory}
 use Rattle.rules.specs.Game.{Game, Pending, library_waits, host_waits, Position, library_runs, host_turn, start, Pass, host_call, host_answer, library_call, library_answer, Says, ◌⊢◌─◌⟹◌}
 use Rattle.rules.specs.Game as rule
 use Rattle.rules.specs.Plays.{Run, Ending, Ends, Move, host_moves, Play}
 use Rattle.rules.specs.Plays as play
-use Rattle.rules.specs.Enumeration.{hands}
 use Rattle.rules.specs.Listings.{name_field, leaf_fields, pass_fields, listing}
 use Rattle.rules.specs.Laws.{names_at, ListingsTellPlays}
 use Rattle.rules.proofs.Nexts.{step_next}
+use Rattle.rules.proofs.Places.{inside}
 use Rattle.rules.proofs.Begun.{playable_has_few_names}
-use Rattle.rules.proofs.Determined.{Said, said, HostStep, CallStep, AnswerStep, calling, answering, host_step, one_inside, inside_no_pass, ended_no_inside, one_pass}
-
--- bytes up to the first line feed
-first_feed : (xs ys t u : List ℕ) → Lacks 10 xs → Lacks 10 ys → xs ++ (10 ∷ t) ≡ ys ++ (10 ∷ u) → (xs ≡ ys) × (t ≡ u)
-first_feed [] [] t u h k e = (refl, (cc))
-first_feed [] (y ∷ ys) t u h k e = let z : y ≡ 10 = cc in absurd (k.0 z)
-first_feed (x ∷ xs) [] t u h k e = let z : x ≡ 10 = cc in absurd (h.0 z)
-first_feed (x ∷ xs) (y ∷ ys) t u h k e =
-    let heads : x ≡ y = cc in
-    let tails : xs ++ (10 ∷ t) ≡ ys ++ (10 ∷ u) = cc in
-    let p = first_feed xs ys t u h.1 k.1 tails in
-    ((λ i. heads i ∷ p.0 i), p.1)
-
-commas_lack : (fs : List (List ℕ)) → AllByRecursion Free fs → Lacks 10 (commas fs)
-commas_lack [] h = tt
-commas_lack (f ∷ []) h = h.0.1
-commas_lack (f ∷ g ∷ fs) h = All-append (λ b. b ≡ 10 → ⊥) f (44 ∷ commas (g ∷ fs)) h.0.1 ((λ e. omega arith), commas_lack (g ∷ fs) h.1)
+use Rattle.rules.proofs.Determined.{Said, said, value_told, HostStep, CallStep, AnswerStep, calling, answering, host_step, one_inside, inside_no_pass, ended_no_inside, one_pass}
 
 -- lines with the same bytes have the same fields, and so has what follows
 line_tells : (f g : List ℕ) (fs gs : List (List ℕ)) (x y : List ℕ) → AllByRecursion Free (f ∷ fs) → AllByRecursion Free (g ∷ gs) → line_of (f ∷ fs) ++ x ≡ line_of (g ∷ gs) ++ y → (◌≡◌ {A = List (List ℕ)} (f ∷ fs) (g ∷ gs)) × (x ≡ y)
@@ -57,15 +44,9 @@ same_signed v w h k e =
     let d : Some v ≡ Some w = sym (word_written v h) ∙ ap word_of e ∙ word_written w k in
     cc
 
-no_literal : (n : ℕ) (bs : List ℕ) → Slots.number n ≡ Slots.literal bs → Free bs
-no_literal n bs e = let z : ◌≡◌ {A = ℕ} 0 1 = cc in absurd (omega arith)
-
-word_no_literal : (w : ℤ) (bs : List ℕ) → Slots.word w ≡ Slots.literal bs → Free bs
-word_no_literal w bs e = let z : ◌≡◌ {A = ℕ} 0 1 = cc in absurd (omega arith)
-
 -- a name's field has no comma and no line feed
 name_free : (n : ℕ) → n ≤ 65535 → Free (name_field n)
-name_free n h = let d = written_free (Slots.number n) h (no_literal n) in (((λ e. omega arith), d.0), ((λ e. omega arith), d.1))
+name_free n h = let d = written_free (Slots.number n) h (λ bs e. cc) in (((λ e. omega arith), d.0), ((λ e. omega arith), d.1))
 
 grows : (A : Meaning) (θ : Tree) (R : List Entry) (v : Value) (R' : List Entry) → Says A θ R v R' → length R ≤ length R'
 grows A θ R v R' rule.says_unit = omega arith
@@ -79,51 +60,15 @@ module _ (A : Meaning) (closed : Closed A) where
 
   -- the leaves of a value that the host says have no comma and no line feed
   leaves_free : (θ : Tree) (R : List Entry) (v : Value) (R' : List Entry) → Says A θ R v R' → length R' ≤ 65535 → AllByRecursion Free (leaf_fields v)
-  leaves_free θ R v R' rule.says_unit few = ((((λ e. omega arith), tt), ((λ e. omega arith), tt)), tt)
-  leaves_free θ R v R' (rule.says_word w h) few = (written_free (Slots.word w) (fits w h) (word_no_literal w), tt)
+  leaves_free θ R v R' rule.says_unit few = omega arith
+  leaves_free θ R v R' (rule.says_word w h) few = (written_free (Slots.word w) (fits w h) (λ bs e. cc), tt)
   leaves_free θ R v R' (rule.says_pair {θ = ρ} {θ' = σ} {R' = R₁} {v = a} {w = b} h k) few =
       All-append Free (leaf_fields a) (leaf_fields b) (leaves_free ρ R a R₁ h (let x = grows A σ R₁ b R' k in omega arith)) (leaves_free σ R₁ b R' k few)
   leaves_free θ R v R' (rule.says_function {θ = ρ} {θ' = σ}) few = (name_free (length R) (omega (arith, length-append R (host_name ρ σ ∷ []))), tt)
 
-  -- the words of a value may be said
-  abbrev Sayable : Value → Type 0
-  Sayable unit = Unit {0}
-  Sayable (word w) = A.may_say w ≡ true
-  Sayable (name m) = Unit {0}
-  Sayable (pair v w) = Sayable v × Sayable w
-
-  sayable : (θ : Tree) (R : List Entry) (v : Value) (R' : List Entry) → Says A θ R v R' → Sayable v
-  sayable θ R v R' rule.says_unit = tt
-  sayable θ R v R' (rule.says_word w h) = h
-  sayable θ R v R' (rule.says_pair {θ = ρ} {θ' = σ} {R' = R₁} {v = a} {w = b} h k) = (sayable ρ R a R₁ h, sayable σ R₁ b R' k)
-  sayable θ R v R' rule.says_function = tt
-
   -- the leaves tell the value at a type
-  leaves_tell : (θ : Tree) (R : List Entry) (v w : Value) (R' R'' : List Entry) (x y : List (List ℕ)) → Said A θ R v R' → Said A θ R w R'' → Sayable v → Sayable w → leaf_fields v ++ x ≡ leaf_fields w ++ y → (v ≡ w) × (R' ≡ R'') × (x ≡ y)
-  leaves_tell unit_type R v w R' R'' x y h k i j e =
-      let d : leaf_fields unit ++ x ≡ leaf_fields unit ++ y = ap (λ z. leaf_fields z ++ x) (sym h.0) ∙ e ∙ ap (λ z. leaf_fields z ++ y) k.0 in
-      (h.0 ∙ sym k.0, h.1 ∙ sym k.1, (cc))
-  leaves_tell int_type R v w R' R'' x y h k i j e =
-      let d : signed_decimal h.0 ∷ x ≡ signed_decimal k.0 ∷ y = ap (λ z. leaf_fields z ++ x) (sym h.1) ∙ e ∙ ap (λ z. leaf_fields z ++ y) k.1 in
-      let one : signed_decimal h.0 ≡ signed_decimal k.0 = cc in
-      let s = same_signed h.0 k.0 (fits h.0 (subst Sayable h.1 i)) (fits k.0 (subst Sayable k.1 j)) one in
-      (h.1 ∙ ap word s ∙ sym k.1, h.2 ∙ sym k.2, (cc))
-  leaves_tell (pair_type θ θ') R v w R' R'' x y h k i j e =
-      let d : leaf_fields h.0 ++ (leaf_fields h.1 ++ x) ≡ leaf_fields k.0 ++ (leaf_fields k.1 ++ y) =
-      sym (append_assoc (leaf_fields h.0) (leaf_fields h.1) x) ∙ ap (λ z. leaf_fields z ++ x) (sym h.5) ∙ e ∙ ap (λ z. leaf_fields z ++ y) k.5 ∙ append_assoc (leaf_fields k.0) (leaf_fields k.1) y
-      in
-      let first = leaves_tell θ R h.0 k.0 h.2 k.2 _ _ (said A θ R _ _ h.3) (said A θ R _ _ k.3) (sayable θ R _ _ h.3) (sayable θ R _ _ k.3) d in
-      let right : Says A θ' h.2 k.1 R'' = subst (λ (z : List Entry). Says A θ' z k.1 R'') (sym first.1) k.4 in
-      let second = leaves_tell θ' h.2 h.1 k.1 R' R'' x y (said A θ' h.2 _ _ h.4) (said A θ' h.2 _ _ right) (sayable θ' _ _ _ h.4) (sayable θ' _ _ _ k.4) first.2 in
-      (h.5 ∙ ap (λ z. pair z h.1) first.0 ∙ ap (pair k.0) second.0 ∙ sym k.5, second.1, second.2)
-  leaves_tell (function_type θ θ') R v w R' R'' x y h k i j e =
-      let d : leaf_fields (name (length R)) ++ x ≡ leaf_fields (name (length R)) ++ y = ap (λ z. leaf_fields z ++ x) (sym h.0) ∙ e ∙ ap (λ z. leaf_fields z ++ y) k.0 in
-      (h.0 ∙ sym k.0, h.1 ∙ sym k.1, (cc))
-
-at_low : {X : Type 0} (xs : List X) (n : ℕ) (x : X) → at xs n ≡ some x → n < length xs
-at_low [] n x e = let z : ◌≡◌ {A = ℕ} 0 1 = cc in absurd (omega arith)
-at_low (y ∷ xs) zero x e = omega arith
-at_low (y ∷ xs) (suc n) x e = let h = at_low xs n x e in omega arith
+  leaves_tell : (θ : Tree) (R : List Entry) (v w : Value) (R' R'' : List Entry) (x y : List (List ℕ)) → Said A θ R v R' → Said A θ R w R'' → leaf_fields v ++ x ≡ leaf_fields w ++ y → (v ≡ w) × (R' ≡ R'') × (x ≡ y)
+  leaves_tell = value_told A leaf_fields (λ v w. refl) (λ i j x y h k e. same_signed i j (fits i h) (fits j k) (cc))
 
 host_free : Free (codes "H")
 host_free = omega arith
@@ -134,17 +79,6 @@ call_free = omega arith
 ret_free : Free (codes "ret")
 ret_free = omega arith
 
--- equal lists of fields have equal fields
-fields_same : (f g h f' g' h' : List ℕ) (fs fs' : List (List ℕ)) → ◌≡◌ {A = List (List ℕ)} (f ∷ g ∷ h ∷ fs) (f' ∷ g' ∷ h' ∷ fs') → (f ≡ f') × (g ≡ g') × (h ≡ h') × (fs ≡ fs')
-fields_same f g h f' g' h' fs fs' e = ((cc), (cc), (cc), (cc))
-
-bytes_same : (b c : ℕ) (bs cs : List ℕ) → b ∷ bs ≡ c ∷ cs → (b ≡ c) × (bs ≡ cs)
-bytes_same b c bs cs e = ((cc), (cc))
-
-cancel_bytes : (xs ys zs : List ℕ) → xs ++ ys ≡ xs ++ zs → ys ≡ zs
-cancel_bytes [] ys zs e = e
-cancel_bytes (x ∷ xs) ys zs e = cancel_bytes xs ys zs (cc)
-
 module _ (G : Game) (closed : Closed G.meaning) where
   abbrev Few : Position → Type 0
   Few p = length (names_at p) ≤ 65535
@@ -152,56 +86,44 @@ module _ (G : Game) (closed : Closed G.meaning) where
   module _ (K : List Pending) (l : ℕ) (μ : Memory) (P : List ℕ) where
     call_fields_free : (a : Pass) (q : Position) → Few (host_turn K l μ P) → Few q → (c : CallStep G K l μ P a q) → AllByRecursion Free (pass_fields (host_call c.0 c.4))
     call_fields_free a q few few' c =
-        let low = at_low μ.names c.0 _ c.6 in
+        let low = inside _ μ.names c.0 c.6 in
         let few'' : length c.5 ≤ 65535 = subst Few c.9 few' in
         (host_free, (call_free, (name_free c.0 (omega arith), leaves_free G.meaning closed c.2 μ.names c.4 c.5 c.7 few'')))
 
     answer_fields_free : (a : Pass) (q : Position) → Few (host_turn K l μ P) → Few q → (c : AnswerStep G K l μ P a q) → AllByRecursion Free (pass_fields (host_answer c.0 c.4))
     answer_fields_free a q few few' c =
-        let low = at_low μ.names c.0 _ c.7 in
+        let low = inside _ μ.names c.0 c.7 in
         let few'' : length c.5 ≤ 65535 = subst Few c.11 few' in
         (host_free, (ret_free, (name_free c.0 (omega arith), leaves_free G.meaning closed c.3 μ.names c.4 c.5 c.8 few'')))
 
     call_told : (a b : Pass) (q r : Position) (x y : List ℕ) → Few (host_turn K l μ P) → Few q → Few r → CallStep G K l μ P a q → CallStep G K l μ P b r → line_of (pass_fields a) ++ x ≡ line_of (pass_fields b) ++ y → (a ≡ b) × (x ≡ y)
     call_told a b q r x y few fq fr c d e =
-        let lines : line_of (pass_fields (host_call c.0 c.4)) ++ x ≡ line_of (pass_fields (host_call d.0 d.4)) ++ y = ap (λ z. line_of (pass_fields z) ++ x) (sym c.8) ∙ e ∙ ap (λ z. line_of (pass_fields z) ++ y) d.8 in
+        let lines : line_of (pass_fields (host_call c.0 c.4)) ++ x ≡ line_of (pass_fields (host_call d.0 d.4)) ++ y = cc in
         let told = line_tells (codes "H") (codes "H") (codes "call" ∷ name_field c.0 ∷ leaf_fields c.4) (codes "call" ∷ name_field d.0 ∷ leaf_fields d.4) x y (call_fields_free a q few fq c) (call_fields_free b r few fr d) lines in
-        let fields = fields_same (codes "H") (codes "call") (name_field c.0) (codes "H") (codes "call") (name_field d.0) (leaf_fields c.4) (leaf_fields d.4) told.0 in
-        let names = (bytes_same 109 109 (decimal c.0) (decimal d.0) fields.2).1 in
-        let leaves = fields.3 in
-        let lc = at_low μ.names c.0 _ c.6 in
-        let ld = at_low μ.names d.0 _ d.6 in
+        let names : decimal c.0 ≡ decimal d.0 = cc in
+        let lc = inside _ μ.names c.0 c.6 in
+        let ld = inside _ μ.names d.0 d.6 in
         let m : c.0 ≡ d.0 = same_decimal c.0 d.0 (omega arith) (omega arith) names in
-        let entry : some (library_name c.1 c.2 c.3) ≡ some (library_name d.1 d.2 d.3) = sym c.6 ∙ ap (λ n. at μ.names n) m ∙ d.6 in
         let θ : c.2 ≡ d.2 = cc in
-        let says : Says G.meaning c.2 μ.names d.4 d.5 = subst (λ (z : Tree). Says G.meaning z μ.names d.4 d.5) (sym θ) d.7 in
-        let v = leaves_tell G.meaning closed c.2 μ.names c.4 d.4 c.5 d.5 [] [] (said _ _ _ _ _ c.7) (said _ _ _ _ _ says) (sayable G.meaning closed _ _ _ _ c.7) (sayable G.meaning closed _ _ _ _ d.7) (ap (λ z. z ++ []) leaves) in
-        (c.8 ∙ ap (λ n. host_call n c.4) m ∙ ap (host_call d.0) v.0 ∙ sym d.8, told.1)
+        let says : Says G.meaning c.2 μ.names d.4 d.5 = rw (← θ) at d.7 in
+        let v = leaves_tell G.meaning closed c.2 μ.names c.4 d.4 c.5 d.5 [] [] (said _ _ _ _ _ c.7) (said _ _ _ _ _ says) (cc) in
+        (cc, told.1)
 
     answer_told : (a b : Pass) (q r : Position) (x y : List ℕ) → Few (host_turn K l μ P) → Few q → Few r → AnswerStep G K l μ P a q → AnswerStep G K l μ P b r → line_of (pass_fields a) ++ x ≡ line_of (pass_fields b) ++ y → (a ≡ b) × (x ≡ y)
     answer_told a b q r x y few fq fr c d e =
-        let lines : line_of (pass_fields (host_answer c.0 c.4)) ++ x ≡ line_of (pass_fields (host_answer d.0 d.4)) ++ y = ap (λ z. line_of (pass_fields z) ++ x) (sym c.10) ∙ e ∙ ap (λ z. line_of (pass_fields z) ++ y) d.10 in
+        let lines : line_of (pass_fields (host_answer c.0 c.4)) ++ x ≡ line_of (pass_fields (host_answer d.0 d.4)) ++ y = cc in
         let told = line_tells (codes "H") (codes "H") (codes "ret" ∷ name_field c.0 ∷ leaf_fields c.4) (codes "ret" ∷ name_field d.0 ∷ leaf_fields d.4) x y (answer_fields_free a q few fq c) (answer_fields_free b r few fr d) lines in
-        let fields = fields_same (codes "H") (codes "ret") (name_field c.0) (codes "H") (codes "ret") (name_field d.0) (leaf_fields c.4) (leaf_fields d.4) told.0 in
-        let names = (bytes_same 109 109 (decimal c.0) (decimal d.0) fields.2).1 in
-        let leaves = fields.3 in
-        let lc = at_low μ.names c.0 _ c.7 in
-        let ld = at_low μ.names d.0 _ d.7 in
-        let m : c.0 ≡ d.0 = same_decimal c.0 d.0 (omega arith) (omega arith) names in
-        let entry : some (host_name c.2 c.3) ≡ some (host_name d.2 d.3) = sym c.7 ∙ ap (λ n. at μ.names n) m ∙ d.7 in
         let θ : c.3 ≡ d.3 = cc in
-        let says : Says G.meaning c.3 μ.names d.4 d.5 = subst (λ (z : Tree). Says G.meaning z μ.names d.4 d.5) (sym θ) d.8 in
-        let v = leaves_tell G.meaning closed c.3 μ.names c.4 d.4 c.5 d.5 [] [] (said _ _ _ _ _ c.8) (said _ _ _ _ _ says) (sayable G.meaning closed _ _ _ _ c.8) (sayable G.meaning closed _ _ _ _ d.8) (ap (λ z. z ++ []) leaves) in
-        (c.10 ∙ ap (λ n. host_answer n c.4) m ∙ ap (host_answer d.0) v.0 ∙ sym d.10, told.1)
+        let says : Says G.meaning c.3 μ.names d.4 d.5 = rw (← θ) at d.8 in
+        let v = leaves_tell G.meaning closed c.3 μ.names c.4 d.4 c.5 d.5 [] [] (said _ _ _ _ _ c.8) (said _ _ _ _ _ says) (cc) in
+        (cc, told.1)
 
     -- a call's line is not an answer's
     not_told : (a b : Pass) (q r : Position) (x y : List ℕ) → Few (host_turn K l μ P) → Few q → Few r → CallStep G K l μ P a q → AnswerStep G K l μ P b r → line_of (pass_fields a) ++ x ≡ line_of (pass_fields b) ++ y → ⊥
     not_told a b q r x y few fq fr c d e =
-        let lines : line_of (pass_fields (host_call c.0 c.4)) ++ x ≡ line_of (pass_fields (host_answer d.0 d.4)) ++ y = ap (λ z. line_of (pass_fields z) ++ x) (sym c.8) ∙ e ∙ ap (λ z. line_of (pass_fields z) ++ y) d.10 in
+        let lines : line_of (pass_fields (host_call c.0 c.4)) ++ x ≡ line_of (pass_fields (host_answer d.0 d.4)) ++ y = cc in
         let told = line_tells (codes "H") (codes "H") (codes "call" ∷ name_field c.0 ∷ leaf_fields c.4) (codes "ret" ∷ name_field d.0 ∷ leaf_fields d.4) x y (call_fields_free a q few fq c) (answer_fields_free b r few fr d) lines in
-        let fields = fields_same (codes "H") (codes "call") (name_field c.0) (codes "H") (codes "ret") (name_field d.0) (leaf_fields c.4) (leaf_fields d.4) told.0 in
-        let letter : ◌≡◌ {A = ℕ} 99 114 = (bytes_same 99 114 (codes "all") (codes "et") fields.1).0 in
-        omega arith
+        cc
 
     host_told : (a b : Pass) (q r : Position) (x y : List ℕ) → Few (host_turn K l μ P) → Few q → Few r → HostStep G K l μ P a q → HostStep G K l μ P b r → line_of (pass_fields a) ++ x ≡ line_of (pass_fields b) ++ y → (a ≡ b) × (x ≡ y)
     host_told a b q r x y few fq fr (calling c) (calling d) e = call_told a b q r x y few fq fr c d e
@@ -212,16 +134,17 @@ module _ (G : Game) (closed : Closed G.meaning) where
   -- two passes from a position whose lines begin the same text
   pass_told : (p q r : Position) (a b : Pass) (x y : List ℕ) → Few p → Few q → Few r → G ⊢ p ─ some a ⟹ q → G ⊢ p ─ some b ⟹ r → line_of (pass_fields a) ++ x ≡ line_of (pass_fields b) ++ y → (a ≡ b) × (q ≡ r) × (x ≡ y)
   pass_told (library_runs K M μ P) q r a b x y few fq fr h k e =
-      let s : hands a q ≡ hands b r = sym (step_next G (library_runs K M μ P) q (some a) h) ∙ step_next G (library_runs K M μ P) r (some b) k in
+      let s = step_next G (library_runs K M μ P) q (some a) h in
+      let s' = step_next G (library_runs K M μ P) r (some b) k in
       let same : a ≡ b = cc in
-      (same, (cc), cancel_bytes (line_of (pass_fields a)) x y (e ∙ ap (λ z. line_of (pass_fields z) ++ y) (sym same)))
+      (same, cc, append_cancel_left (line_of (pass_fields a)) x y (cc))
   pass_told (host_turn K l μ P) q r a b x y few fq fr h k e =
       let c = host_step G (host_turn K l μ P) q (some a) h in
       let d = host_step G (host_turn K l μ P) r (some b) k in
-      let i : c.0 ≡ a = (let s = c.1 in cc) in
-      let j : d.0 ≡ b = (let s = d.1 in cc) in
-      let told = host_told K l μ P a b q r x y few fq fr (subst (λ (z : Pass). HostStep G K l μ P z q) i c.2) (subst (λ (z : Pass). HostStep G K l μ P z r) j d.2) e in
-      let one = one_pass G (host_turn K l μ P) q r a b [] [] h k (ap (λ z. host_moves (z ∷ [])) told.0) in
+      let i : c.0 ≡ a = cc in
+      let j : d.0 ≡ b = cc in
+      let told = host_told K l μ P a b q r x y few fq fr (rw i at c.2) (rw j at d.2) e in
+      let one = one_pass G (host_turn K l μ P) q r a b [] [] h k (cc) in
       (told.0, one.1, told.1)
 
   -- the line of an end is no move's
@@ -240,16 +163,16 @@ module _ (G : Game) (closed : Closed G.meaning) where
   same_trace p q q' t u u' x x' e e' s s' few play.stays h (play.passes {a = a} {trace = y} lt g run) k d = absurd (end_apart a y e e' s s' d)
   same_trace p q q' t u u' x x' e e' s s' few (play.inside {q = r} lt g run) h play.stays k d = absurd (ended_no_inside G p r t e' s' k lt g)
   same_trace p q q' t u u' x x' e e' s s' few (play.inside {q = r} lt g run) h (play.inside {q = r'} lt' g' run') k d =
-      same_trace r q q' (suc t) u u' x x' e e' s s' (λ tr z w m. few tr z w (play.inside lt g m)) run h (subst (λ (z : Position). Run G z (suc t) x' q' u') (one_inside G p r' r g' g) run') k d
+      same_trace r q q' (suc t) u u' x x' e e' s s' (λ tr z w m. few tr z w (play.inside lt g m)) run h (rw (one_inside G p r' r g' g) at run') k d
   same_trace p q q' t u u' x x' e e' s s' few (play.inside {q = r} lt g run) h (play.passes {q = r'} {a = a} lt' g' run') k d = absurd (inside_no_pass G p r r' a g g')
   same_trace p q q' t u u' x x' e e' s s' few (play.passes {a = a} {trace = y} lt g run) h play.stays k d = absurd (end_apart a y e' e s' s (sym d))
   same_trace p q q' t u u' x x' e e' s s' few (play.passes {q = r} {a = a} lt g run) h (play.inside {q = r'} lt' g' run') k d = absurd (inside_no_pass G p r' r a g' g)
   same_trace p q q' t u u' x x' e e' s s' few (play.passes {q = r} {a = a} {trace = y} lt g run) h (play.passes {q = r'} {a = a'} {trace = y'} lt' g' run') k d =
       let told = pass_told p r r' a a' _ _ (few [] p t play.stays) (few (a ∷ []) r (suc t) (play.passes lt g play.stays)) (few (a' ∷ []) r' (suc t) (play.passes lt' g' play.stays)) g g' d in
-      let more = same_trace r q q' (suc t) u u' y y' e e' s s' (λ tr z w m. few (a ∷ tr) z w (play.passes lt g m)) run h (subst (λ (z : Position). Run G z (suc t) y' q' u') (sym told.1) run') k told.2 in
-      ap (λ z. z ∷ y) told.0 ∙ ap (λ z. a' ∷ z) more
+      let more = same_trace r q q' (suc t) u u' y y' e e' s s' (λ tr z w m. few (a ∷ tr) z w (play.passes lt g m)) run h (rw (← told.1) at run') k told.2 in
+      cc
 
 pub listings_tell_plays : ListingsTellPlays
 listings_tell_plays G playable moves others x y d =
     let same = same_trace G playable.closed _ _ _ 0 _ _ x.trace y.trace x.ending y.ending x.steps y.steps (playable_has_few_names G playable) x.play.run x.play.ends y.play.run y.play.ends d in
-    sym x.moved ∙ ap host_moves same ∙ y.moved
+    cc

@@ -1,6 +1,6 @@
 -- Typed terms: weakening, substitution, contexts, and that a closed typed term is a value or has a redex.
-use Rattle.std.proofs.Common.{◌≡◌, ℕ, Bool, true, false, eqb, ◌⊎◌, List, [], ◌∷◌, ℤ, sym, refl, ap, ◌∙◌, subst, inl, inr, arith, eqb-true}
-use mathlib.Core.List.Memᴰ
+use Rattle.std.proofs.Common.{◌≡◌, ℕ, Bool, true, false, eqb, ◌⊎◌, List, [], ◌∷◌, ℤ, sym, refl, ap, ◌∙◌, inl, inr, eqb-true}
+use Rattle.std.proofs.Math.Logic.{⊎_elim}
 use mathlib.Core.List.{Memᴰ}
 use mathlib.Core.Option.{some}
 use borrow.Author.Tests.{eqb-false}
@@ -8,7 +8,7 @@ use Rattle.arithmetic.specs.Meaning.{Meaning}
 use Rattle.rows.specs.Types.{Tree, unit as unit_type, int as int_type, pair as pair_type, fun as function_type}
 use Rattle.rules.specs.Terms.{Term, Value, Frame, Context, choose, plug, fill, ⌊◌⌋, ◌⟨◌/◌⟩}
 use Rattle.rules.specs.Terms.{⟨⟩, num, var, meth, get, lam, put, op, tuple, fst, snd, app, ite, let_in, assert, ⟪◌⟫}
-use Rattle.rules.specs.Terms.{unit, word, name, pair}
+use Rattle.rules.specs.Terms.{word, name, pair}
 use Rattle.rules.specs.Terms.{assert•, put•, op•₁, op•₂, tuple•₁, tuple•₂, fst•, snd•, app•₁, app•₂, let•, ite•, box•}
 use Rattle.rules.specs.Memory.{at}
 use Rattle.rules.specs.Stepping.{Parts, value, redex, neither, parts, under, on_word, on_name, on_pair}
@@ -46,11 +46,8 @@ module _ (V : ℕ → Tree) (Γ : List Tree) (A : Meaning) where
   within_more y Δ Δ' s x (Memᴰ.tail i) = Memᴰ.tail (s x i)
 
   pub weaken : (Σ Σ' : List Tree) (Δ Δ' : List ℕ) → Grows Σ Σ' → Within Δ Δ' → (M : Term) (θ : Tree) → Typed Σ Δ M θ → Typed Σ' Δ' M θ
-  weaken Σ Σ' Δ Δ' g s ⟨⟩ θ h = h
-  weaken Σ Σ' Δ Δ' g s (num i) θ h = h
   weaken Σ Σ' Δ Δ' g s (var x) θ h = (h.0, s x h.1)
   weaken Σ Σ' Δ Δ' g s (meth m) θ h = g m θ h
-  weaken Σ Σ' Δ Δ' g s (get r) θ h = h
   weaken Σ Σ' Δ Δ' g s (lam x ρ M) θ h = (h.0, h.1, h.2, weaken Σ Σ' (x ∷ Δ) (x ∷ Δ') g (within_more x Δ Δ' s) M h.1 h.3)
   weaken Σ Σ' Δ Δ' g s (put r M) θ h = (h.0, h.1, h.2, weaken Σ Σ' Δ Δ' g s M h.1 h.3)
   weaken Σ Σ' Δ Δ' g s (op o M N) θ h = (h.0, weaken Σ Σ' Δ Δ' g s M int_type h.1, weaken Σ Σ' Δ Δ' g s N int_type h.2)
@@ -62,9 +59,10 @@ module _ (V : ℕ → Tree) (Γ : List Tree) (A : Meaning) where
   weaken Σ Σ' Δ Δ' g s (let_in x M N) θ h = (weaken Σ Σ' Δ Δ' g s M (V x) h.0, weaken Σ Σ' (x ∷ Δ) (x ∷ Δ') g (within_more x Δ Δ' s) N θ h.1)
   weaken Σ Σ' Δ Δ' g s (assert M) θ h = (h.0, weaken Σ Σ' Δ Δ' g s M int_type h.1)
   weaken Σ Σ' Δ Δ' g s ⟪ M ⟫ θ h = weaken Σ Σ' Δ Δ' g s M θ h
+  weaken Σ Σ' Δ Δ' g s M θ h = h
 
   pub closed_anywhere : (Σ : List Tree) (Δ : List ℕ) (M : Term) (θ : Tree) → Typed Σ [] M θ → Typed Σ Δ M θ
-  closed_anywhere Σ Δ M θ h = weaken Σ Σ [] Δ (λ m ρ e. e) (λ x i. absurd (Memᴰ.not-nil i)) M θ h
+  closed_anywhere Σ Δ M θ h = weaken Σ Σ [] Δ (λ m ρ e. e) (λ x i. elim i [ ]) M θ h
 
   -- each variable in scope is x, or is in scope after x is replaced
   abbrev Leaves : ℕ → List ℕ → List ℕ → Type 0
@@ -72,29 +70,17 @@ module _ (V : ℕ → Tree) (Γ : List Tree) (A : Meaning) where
 
   leaves_more : (x z : ℕ) (Δ Δ' : List ℕ) → Leaves x Δ Δ' → Leaves x (z ∷ Δ) (z ∷ Δ')
   leaves_more x z Δ Δ' s y (Memᴰ.head e) = inr (Memᴰ.head e)
-  leaves_more x z Δ Δ' s y (Memᴰ.tail i) = go (s y i)
-    where
-      go : (y ≡ x) ⊎ Memᴰ y Δ' → (y ≡ x) ⊎ Memᴰ y (z ∷ Δ')
-      go (inl e) = inl e
-      go (inr j) = inr (Memᴰ.tail j)
+  leaves_more x z Δ Δ' s y (Memᴰ.tail i) = ⊎_elim (λ e. inl e) (λ j. inr (Memᴰ.tail j)) (s y i)
 
   -- where the binder is x itself, nothing is replaced below it
   hidden : (x z : ℕ) (Δ Δ' : List ℕ) → z ≡ x → Leaves x Δ Δ' → Within (z ∷ Δ) (z ∷ Δ')
   hidden x z Δ Δ' e s y (Memᴰ.head d) = Memᴰ.head d
-  hidden x z Δ Δ' e s y (Memᴰ.tail i) = go (s y i)
-    where
-      go : (y ≡ x) ⊎ Memᴰ y Δ' → Memᴰ y (z ∷ Δ')
-      go (inl d) = Memᴰ.head (d ∙ sym e)
-      go (inr j) = Memᴰ.tail j
+  hidden x z Δ Δ' e s y (Memᴰ.tail i) = ⊎_elim (λ d. Memᴰ.head (cc)) (λ j. Memᴰ.tail j) (s y i)
 
   module _ (Σ : List Tree) (v : Value) (x : ℕ) (hv : Typed Σ [] ⌊ v ⌋ (V x)) where
     at_var : (Δ Δ' : List ℕ) → Leaves x Δ Δ' → (y : ℕ) (θ : Tree) (b : Bool) → eqb y x ≡ b → θ ≡ V y → Memᴰ y Δ → Typed Σ Δ' (choose b ⌊ v ⌋ (var y)) θ
-    at_var Δ Δ' s y θ true e d i = closed_anywhere Σ Δ' ⌊ v ⌋ θ (subst (λ (ρ : Tree). Typed Σ [] ⌊ v ⌋ ρ) (ap V (sym (eqb-true y x e)) ∙ sym d) hv)
-    at_var Δ Δ' s y θ false e d i = go (s y i)
-      where
-        go : (y ≡ x) ⊎ Memᴰ y Δ' → (θ ≡ V y) × Memᴰ y Δ'
-        go (inl f) = absurd (eqb-false y x e f)
-        go (inr j) = (d, j)
+    at_var Δ Δ' s y θ true e d i = closed_anywhere Σ Δ' ⌊ v ⌋ θ (rw (ap V (sym (eqb-true y x e)) ∙ sym d) at hv)
+    at_var Δ Δ' s y θ false e d i = ⊎_elim (λ f. absurd (eqb-false y x e f)) (λ j. (d, j)) (s y i)
 
     -- below a binder z
     below : (Δ Δ' : List ℕ) → Leaves x Δ Δ' → (z : ℕ) (b : Bool) → eqb z x ≡ b → (M N : Term) (θ : Tree) → Typed Σ (z ∷ Δ) M θ → Typed Σ (z ∷ Δ') N θ → Typed Σ (z ∷ Δ') (choose b M N) θ
@@ -102,11 +88,7 @@ module _ (V : ℕ → Tree) (Γ : List Tree) (A : Meaning) where
     below Δ Δ' s z false e M N θ h k = k
 
     pub replaced : (Δ Δ' : List ℕ) → Leaves x Δ Δ' → (M : Term) (θ : Tree) → Typed Σ Δ M θ → Typed Σ Δ' (M ⟨ v / x ⟩) θ
-    replaced Δ Δ' s ⟨⟩ θ h = h
-    replaced Δ Δ' s (num i) θ h = h
     replaced Δ Δ' s (var y) θ h = at_var Δ Δ' s y θ (eqb y x) refl h.0 h.1
-    replaced Δ Δ' s (meth m) θ h = h
-    replaced Δ Δ' s (get r) θ h = h
     replaced Δ Δ' s (lam z ρ M) θ h =
         (h.0, h.1, h.2, below Δ Δ' s z (eqb z x) refl M (M ⟨ v / x ⟩) h.1 h.3 (replaced (z ∷ Δ) (z ∷ Δ') (leaves_more x z Δ Δ' s) M h.1 h.3))
     replaced Δ Δ' s (put r M) θ h = (h.0, h.1, h.2, replaced Δ Δ' s M h.1 h.3)
@@ -120,6 +102,7 @@ module _ (V : ℕ → Tree) (Γ : List Tree) (A : Meaning) where
         (replaced Δ Δ' s M (V z) h.0, below Δ Δ' s z (eqb z x) refl N (N ⟨ v / x ⟩) θ h.1 (replaced (z ∷ Δ) (z ∷ Δ') (leaves_more x z Δ Δ' s) N θ h.1))
     replaced Δ Δ' s (assert M) θ h = (h.0, replaced Δ Δ' s M int_type h.1)
     replaced Δ Δ' s ⟪ M ⟫ θ h = replaced Δ Δ' s M θ h
+    replaced Δ Δ' s M θ h = h
 
     -- the body of a function with its one variable replaced is closed
     pub body_replaced : (M : Term) (θ : Tree) → Typed Σ (x ∷ []) M θ → Typed Σ [] (M ⟨ v / x ⟩) θ
@@ -127,7 +110,7 @@ module _ (V : ℕ → Tree) (Γ : List Tree) (A : Meaning) where
       where
         only : (y : ℕ) → Memᴰ y (x ∷ []) → (y ≡ x) ⊎ Memᴰ y []
         only y (Memᴰ.head e) = inl e
-        only y (Memᴰ.tail i) = absurd (Memᴰ.not-nil i)
+        only y (Memᴰ.tail i) = elim i [ ]
 
   -- what a context takes to what: by the names Σ and any more
   abbrev pub Takes : List Tree → Context → Tree → Tree → Type 0
@@ -178,34 +161,27 @@ module _ (V : ℕ → Tree) (Γ : List Tree) (A : Meaning) where
 
   module _ (Σ : List Tree) (fs : Functions Σ) where
     name_no_int : (m : ℕ) → at Σ m ≡ some int_type → ⊥
-    name_no_int m h = let x = fs m int_type h in let e = x.2 in let z : ◌≡◌ {A = ℕ} 0 1 = cc in omega arith
+    name_no_int m h = let x = fs m int_type h in cc
 
     name_no_pair : (m : ℕ) (ρ σ : Tree) → at Σ m ≡ some (pair_type ρ σ) → ⊥
-    name_no_pair m ρ σ h = let x = fs m (pair_type ρ σ) h in let e = x.2 in let z : ◌≡◌ {A = ℕ} 0 1 = cc in omega arith
+    name_no_pair m ρ σ h = let x = fs m (pair_type ρ σ) h in cc
 
     on_word_fine : (θ : Tree) (k : ℤ → Parts) (v : Value) → Typed Σ [] ⌊ v ⌋ int_type → ((i : ℤ) → Fine Σ θ (k i)) → Fine Σ θ (on_word k v)
-    on_word_fine θ k unit h g = let z : ◌≡◌ {A = ℕ} 0 1 = cc in absurd (omega arith)
     on_word_fine θ k (word i) h g = g i
     on_word_fine θ k (name m) h g = absurd (name_no_int m h)
-    on_word_fine θ k (pair v w) h g = let e = h.2 in let z : ◌≡◌ {A = ℕ} 0 1 = cc in absurd (omega arith)
+    on_word_fine θ k v h g = cc
 
     on_name_fine : (ρ σ θ : Tree) (k : ℕ → Parts) (v : Value) → Typed Σ [] ⌊ v ⌋ (function_type ρ σ) → ((m : ℕ) → Fine Σ θ (k m)) → Fine Σ θ (on_name k v)
-    on_name_fine ρ σ θ k unit h g = let z : ◌≡◌ {A = ℕ} 0 1 = cc in absurd (omega arith)
-    on_name_fine ρ σ θ k (word i) h g = let e = h.0 in let z : ◌≡◌ {A = ℕ} 0 1 = cc in absurd (omega arith)
     on_name_fine ρ σ θ k (name m) h g = g m
-    on_name_fine ρ σ θ k (pair v w) h g = let e = h.2 in let z : ◌≡◌ {A = ℕ} 0 1 = cc in absurd (omega arith)
+    on_name_fine ρ σ θ k v h g = cc
 
     on_pair_fine : (ρ σ θ : Tree) (k : Value → Value → Parts) (v : Value) → Typed Σ [] ⌊ v ⌋ (pair_type ρ σ) → ((a b : Value) → Fine Σ θ (k a b)) → Fine Σ θ (on_pair k v)
-    on_pair_fine ρ σ θ k unit h g = let z : ◌≡◌ {A = ℕ} 0 1 = cc in absurd (omega arith)
-    on_pair_fine ρ σ θ k (word i) h g = let e = h.0 in let z : ◌≡◌ {A = ℕ} 0 1 = cc in absurd (omega arith)
     on_pair_fine ρ σ θ k (name m) h g = absurd (name_no_pair m ρ σ h)
     on_pair_fine ρ σ θ k (pair v w) h g = g v w
+    on_pair_fine ρ σ θ k v h g = cc
 
     pub fine : (M : Term) (θ : Tree) → Typed Σ [] M θ → Fine Σ θ (parts M)
-    fine ⟨⟩ θ h = h
-    fine (num i) θ h = h
-    fine (var x) θ h = absurd (Memᴰ.not-nil h.1)
-    fine (meth m) θ h = h
+    fine (var x) θ h = elim h.1 [ ]
     fine (get r) θ h = tt
     fine (lam x ρ M) θ h = tt
     fine (put r M) θ h = under_fine Σ h.1 θ (put• r) (parts M) _ (fine M h.1 h.3) (λ v k. tt)
@@ -224,3 +200,4 @@ module _ (V : ℕ → Tree) (Γ : List Tree) (A : Meaning) where
     fine (let_in x M N) θ h = under_fine Σ (V x) θ (let• x N) (parts M) _ (fine M (V x) h.0) (λ v k. tt)
     fine (assert M) θ h = under_fine Σ int_type θ assert• (parts M) _ (fine M int_type h.1) (λ v k. on_word_fine θ _ v k (λ i. tt))
     fine ⟪ M ⟫ θ h = under_fine Σ θ θ box• (parts M) _ (fine M θ h) (λ v k. tt)
+    fine M θ h = h

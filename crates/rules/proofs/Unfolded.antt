@@ -1,21 +1,23 @@
 -- The terms of a mounted library, unfolded into trees, are typed.
-use Rattle.std.proofs.Common.{◌≡◌, ℕ, zero, suc, ◌+◌, ◌<◌, ◌≤◌, Bool, true, false, eqb, ◌⊎◌, List, [], ◌∷◌, ◌++◌, length, get_or, take, ℤ, Some, None, Option, sym, refl, ap, ◌∙◌, subst, inl, inr, append_assoc, append-nil, arith, length-append, eqb-true}
+use Rattle.std.proofs.Common.{◌≡◌, ℕ, zero, suc, ◌+◌, ◌<◌, Bool, true, false, eqb, List, [], ◌∷◌, ◌++◌, length, get_or, take, ℤ, Some, None, sym, refl, ap, ◌∙◌, subst, append_assoc, append-nil, arith, length-append, eqb-true}
+use Rattle.std.proofs.Math.Logic.{⊎_elim}
 use mathlib.Core.List.{Memᴰ}
 use borrow.Author.Tests.{eqb-false}
 use Rattle.std.specs.List.{slice_get, AllByRecursion}
-use Rattle.std.proofs.lemmas.List.{take-append-le, take_all, get_or_at}
+use Rattle.std.proofs.lemmas.List.{take-append-le, take_all, get_or_at, get_or_append_left}
 use Rattle.std.proofs.str.Laws.{order}
 use Rattle.arithmetic.specs.Meaning.{Meaning}
 use Rattle.faults.specs.declared.TextFault.TheVariants.{Reference}
 use Rattle.rows.specs.declared.forms.TermForm.{TermForm}
 use Rattle.rows.specs.declared.forms.TermForm.TheVariants.{Unit as UnitForm, Num, Var, Meth, Get, Lam, Set, Op, Pair, Fst, Snd, App, If, Let, Assert}
 use Rattle.rows.specs.declared.forms.Row.{Row}
-use Rattle.rows.specs.declared.forms.Row.TheVariants.{«Type» as TypeRow, Variable as VariableRow, Method as MethodRow, Global as GlobalRow, Term as TermRow}
+use Rattle.rows.specs.declared.forms.Row.TheVariants.{Term as TermRow}
 use Rattle.rows.specs.declared.forms.Section.{Section}
 use Rattle.rows.specs.declared.forms.Section.TheVariants.{Terms}
 use Rattle.rows.specs.Sections.{count, references}
 use Rattle.rows.specs.Faults.{Faultless, NoneOf, RowFault, RefersBack}
 use Rattle.rows.specs.Types.{Tree, int as int_type, pair as pair_type, fun as function_type}
+use Rattle.rows.proofs.Admits.{count_push}
 use Rattle.library.specs.Listing.{section_rows, term_of}
 use Rattle.library.specs.Typing.{TermIs, HasType, Names, VariableHas, MethodHas, GlobalHas}
 use Rattle.library.specs.Typing as typing
@@ -41,36 +43,28 @@ good_from b (r ∷ rs) h = (here, good_from (b ++ (r ∷ [])) rs (subst Faultles
     here =
         let inside : length b < length (b ++ (r ∷ rs)) = omega (arith, length-append b (r ∷ rs)) in
         let before : take (length b) (b ++ (r ∷ rs)) ≡ b = take-append-le (length b) b (r ∷ rs) (omega arith) ∙ take_all (length b) b (omega arith) in
-        subst (λ (x : List Row). NoneOf (RowFault true x r)) before (h (length b) r inside (get_or_at b r rs r (length b) refl))
+        rw before at (h (length b) r inside (get_or_at b r rs r (length b) refl))
 
 -- what cannot fail holds, for references
 all_stable : (b : List Row) (ps : List (Section × ℕ)) → ((AllByRecursion (λ p. p.1 < count p.0 b) ps → ⊥) → ⊥) → AllByRecursion (λ p. p.1 < count p.0 b) ps
 all_stable b [] h = tt
-all_stable b (p ∷ ps) h = go (all_stable b ps (λ no. h (λ both. no both.1))) (order p.1 (count p.0 b))
-  where
-    go : AllByRecursion (λ q. q.1 < count q.0 b) ps → (p.1 < count p.0 b) ⊎ (count p.0 b ≤ p.1) → AllByRecursion (λ q. q.1 < count q.0 b) (p ∷ ps)
-    go rest (inl lt) = (lt, rest)
-    go rest (inr ge) = absurd (h (λ both. let x = both.0 in omega arith))
+all_stable b (p ∷ ps) h = (
+  ⊎_elim (λ lt. lt) (λ le. absurd (h (λ both. omega arith))) (order p.1 (count p.0 b)),
+  all_stable b ps (λ no. h (λ both. no both.1)),
+)
 
 refers_back : (b : List Row) (r : Row) → NoneOf (RowFault true b r) → RefersBack b r
 refers_back b r h = all_stable b (references r) (h Reference)
-
-pub count_append : (s : Section) (b : List Row) (r : Row) → count s (b ++ (r ∷ [])) ≡ count s b + count s (r ∷ [])
-count_append s [] r = omega arith
-count_append s (x ∷ b) r = let h = count_append s b r in omega arith
 
 -- the term rows, as the list of terms is made
 module _ (type : ℕ → Tree) where
   -- terms stay where they are as more are made
   grown : (before : List Term) (rows : List Row) → (more : List Term) × (terms_after type before rows ≡ before ++ more)
   grown before [] = ([], sym (append-nil before))
-  grown before (TypeRow n f ∷ rows) = grown before rows
-  grown before (VariableRow n t ∷ rows) = grown before rows
-  grown before (MethodRow n f ∷ rows) = grown before rows
-  grown before (GlobalRow n t e ∷ rows) = grown before rows
   grown before (TermRow n f ∷ rows) =
       let h = grown (before ++ (formed type before f ∷ [])) rows in
       (formed type before f ∷ h.0, h.1 ∙ append_assoc before (formed type before f ∷ []) h.0)
+  grown before (row ∷ rows) = grown before rows
 
   -- where the term row of a number stands: the terms before it, those behind it, and the rows before it
   abbrev Stands : List Term → List Row → ℕ → TermForm → Type 0
@@ -79,29 +73,15 @@ module _ (type : ℕ → Tree) where
       × (n : ℕ) × RefersBack seen (TermRow n form) × (count Terms seen ≡ length pre)
 
   stands : (b : List Row) (before : List Term) (rows : List Row) (k : ℕ) (form : TermForm) → EachGood b rows → length before ≡ count Terms b → term_of (slice_get (section_rows Terms rows) k) ≡ Some form → Stands before rows k form
-  stands b before [] k form good len e = let z : ◌≡◌ {A = ℕ} 0 1 = cc in absurd (omega arith)
-  stands b before (TypeRow n f ∷ rows) k form good len e = stands (b ++ (TypeRow n f ∷ [])) before rows k form good.1 (omega (arith, count_append Terms b (TypeRow n f))) e
-  stands b before (VariableRow n t ∷ rows) k form good len e = stands (b ++ (VariableRow n t ∷ [])) before rows k form good.1 (omega (arith, count_append Terms b (VariableRow n t))) e
-  stands b before (MethodRow n f ∷ rows) k form good len e = stands (b ++ (MethodRow n f ∷ [])) before rows k form good.1 (omega (arith, count_append Terms b (MethodRow n f))) e
-  stands b before (GlobalRow n t x ∷ rows) k form good len e = stands (b ++ (GlobalRow n t x ∷ [])) before rows k form good.1 (omega (arith, count_append Terms b (GlobalRow n t x))) e
+  stands b before [] k form good len e = cc
   stands b before (TermRow n f ∷ rows) zero form good len e =
       let same : f ≡ form = cc in
       let h = grown (before ++ (formed type before f ∷ [])) rows in
-      (before, h.0, b, h.1 ∙ append_assoc before (formed type before f ∷ []) h.0 ∙ ap (λ x. before ++ (formed type before x ∷ h.0)) same, omega arith, n, subst (λ (x : TermForm). RefersBack b (TermRow n x)) same (refers_back b (TermRow n f) good.0), sym len)
+      (before, h.0, b, h.1 ∙ append_assoc before (formed type before f ∷ []) h.0 ∙ ap (λ x. before ++ (formed type before x ∷ h.0)) same, omega arith, n, rw same at (refers_back b (TermRow n f) good.0), sym len)
   stands b before (TermRow n f ∷ rows) (suc k) form good len e =
-      let w = stands (b ++ (TermRow n f ∷ [])) (before ++ (formed type before f ∷ [])) rows k form good.1 (omega (arith, count_append Terms b (TermRow n f), length-append before (formed type before f ∷ []))) e in
+      let w = stands (b ++ (TermRow n f ∷ [])) (before ++ (formed type before f ∷ [])) rows k form good.1 (omega (arith, count_push Terms b (TermRow n f), length-append before (formed type before f ∷ []))) e in
       (w.0, w.1, w.2, w.3, omega (arith, w.4, length-append before (formed type before f ∷ [])), w.5, w.6, w.7)
-
-get_d_front : (xs ys : List Term) (n : ℕ) → n < length xs → get_or (xs ++ ys) n ⟨⟩ ≡ get_or xs n ⟨⟩
-get_d_front [] ys n h = absurd (omega arith)
-get_d_front (x ∷ xs) ys zero h = refl
-get_d_front (x ∷ xs) ys (suc n) h = get_d_front xs ys n (omega arith)
-
-getD_here : (xs : List Term) (x : Term) (ys : List Term) (n : ℕ) → n ≡ length xs → get_or (xs ++ (x ∷ ys)) n ⟨⟩ ≡ x
-getD_here [] x ys zero h = refl
-getD_here [] x ys (suc n) h = absurd (omega arith)
-getD_here (y ∷ xs) x ys zero h = absurd (omega arith)
-getD_here (y ∷ xs) x ys (suc n) h = getD_here xs x ys n (omega arith)
+  stands b before (row ∷ rows) k form good len e = stands (b ++ (row ∷ [])) before rows k form good.1 (omega (arith, count_push Terms b row)) e
 
 module _ (rows : List Row) (faultless : Faultless rows) where
   -- a term's tree is formed over the trees of its parts, which stand before it
@@ -109,8 +89,8 @@ module _ (rows : List Row) (faultless : Faultless rows) where
   form_at t form is =
       let w = stands (variable_type rows) [] [] rows t form (good_from [] rows faultless) refl is in (
         w.0,
-        ap (λ x. get_or x t ⟨⟩) w.3 ∙ getD_here w.0 (formed (variable_type rows) w.0 form) w.1 t (omega (arith, w.4)),
-        (λ a low. sym (ap (λ x. get_or x a ⟨⟩) w.3 ∙ get_d_front w.0 (formed (variable_type rows) w.0 form ∷ w.1) a low)),
+        ap (λ x. get_or x t ⟨⟩) w.3 ∙ get_or_at w.0 (formed (variable_type rows) w.0 form) w.1 ⟨⟩ t (omega (arith, w.4)),
+        (λ a low. sym (ap (λ x. get_or x a ⟨⟩) w.3 ∙ get_or_append_left w.0 (formed (variable_type rows) w.0 form ∷ w.1) ⟨⟩ a low)),
         w.5,
         w.2,
         w.6,
@@ -129,11 +109,8 @@ module _ (rows : List Row) (faultless : Faultless rows) where
     abbrev pub InScope : List ℕ → ℕ → Type 0
     InScope Δ t = (x : ℕ) → Free rows x t → Memᴰ x Δ
 
-    no_bound : (x : ℕ) → ◌≡◌ {A = Option ℕ} None (Some x) → ⊥
-    no_bound x e = let z : ◌≡◌ {A = ℕ} 0 1 = cc in omega arith
-
     plain : (Δ : List ℕ) (t : ℕ) (form : TermForm) (k a : ℕ) → TermIs rows t form → slice_get (parts form) k ≡ Some (a, None) → InScope Δ t → InScope Δ a
-    plain Δ t form k a is e s x f = s x (free.inside form k a None is e (no_bound x) f)
+    plain Δ t form k a is e s x f = s x (free.inside form k a None is e (λ same. cc) f)
 
     bound : (Δ : List ℕ) (t : ℕ) (form : TermForm) (k a y : ℕ) → TermIs rows t form → slice_get (parts form) k ≡ Some (a, Some y) → InScope Δ t → InScope (y ∷ Δ) a
     bound Δ t form k a y is e s x f = go (eqb x y) refl
@@ -143,10 +120,10 @@ module _ (rows : List Row) (faultless : Faultless rows) where
         go false d = Memᴰ.tail (s x (free.inside form k a (Some y) is e (λ same. eqb-false x y d (let z : y ≡ x = cc in sym z)) f))
 
     part : (pre : List Term) (a : ℕ) → get_or pre a ⟨⟩ ≡ unfolded rows a → (Δ : List ℕ) (θ : Tree) → T Δ (unfolded rows a) θ → T Δ (get_or pre a ⟨⟩) θ
-    part pre a e Δ θ h = subst (λ (X : Term). T Δ X θ) (sym e) h
+    part pre a e Δ θ h = rw (← e) at h
 
     whole : (t : ℕ) (X : Term) → unfolded rows t ≡ X → (Δ : List ℕ) (θ : Tree) → T Δ X θ → T Δ (unfolded rows t) θ
-    whole t X e Δ θ h = subst (λ (Y : Term). T Δ Y θ) (sym e) h
+    whole t X e Δ θ h = rw (← e) at h
 
     pub tree_typed : (t : ℕ) (θ : Tree) → HasType rows t θ → (Δ : List ℕ) → InScope Δ t → T Δ (unfolded rows t) θ
     tree_typed t θ (typing.unit_rule is) Δ s = let w = form_at t UnitForm is in whole t _ w.1 Δ θ refl
@@ -201,7 +178,7 @@ module _ (rows : List Row) (faultless : Faultless rows) where
         let w = form_at t (Let x a b) is in
         let value = part w.0 a (w.2 a (omega (arith, w.5.1.0, w.6))) Δ ρ (tree_typed a ρ k Δ (plain Δ t (Let x a b) 0 a is refl s)) in
         whole t _ w.1 Δ θ (
-          subst (λ (y : Tree). T Δ (get_or w.0 a ⟨⟩) y) (variables_known x ρ h) value,
+          rw (variables_known x ρ h) at value,
           part w.0 b (w.2 b (omega (arith, w.5.1.1.0, w.6))) (x ∷ Δ) θ (tree_typed b θ l (x ∷ Δ) (bound Δ t (Let x a b) 1 b x is refl s)),
         )
     tree_typed t θ (typing.assert_rule {a = a} is h) Δ s =

@@ -1,13 +1,16 @@
 -- What trying the full plays in order comes to is how the game comes out.
 use Rattle.std.proofs.Common.{◌≡◌, ℕ, zero, suc, ◌+◌, ◌<◌, Bool, true, false, ◌||◌, ◌⊎◌, List, [], ◌∷◌, ◌++◌, map, length, take, MatchBool, sym, refl, ap, ◌∙◌, subst, inl, inr, arith}
+use Rattle.std.proofs.Math.Logic.{⊎_elim}
 use Rattle.std.proofs.Math.Bool.{or-false}
+use Rattle.std.proofs.Math.Seq.{take-append-add}
+use Rattle.std.proofs.lemmas.List.{take-map}
 use mathlib.Core.List.Memᴰ
 use mathlib.Core.List.{Memᴰ}
 use mathlib.Core.Option.{none, some}
 use Rattle.arithmetic.specs.Meaning.{WordList, Listed}
 use Rattle.rules.specs.Memory.{at}
-use Rattle.rules.specs.Game.{Game, start, Pass}
-use Rattle.rules.specs.Plays.{Ending, failed, cut_by_depth, cut_by_steps, turn, Move, host_moves, PlayFrom, Play, FullPlay, LosingPlay}
+use Rattle.rules.specs.Game.{Game, Pass}
+use Rattle.rules.specs.Plays.{Ending, failed, cut_by_depth, cut_by_steps, turn, Move, host_moves, Play, FullPlay, LosingPlay}
 use Rattle.rules.specs.Enumeration.{Played, played, moves_of, full_plays}
 use Rattle.rules.specs.Verdicts.{Verdict, lost, safe, tried, verdict}
 use Rattle.rules.specs.Order.{Before, Counted}
@@ -18,21 +21,18 @@ use Rattle.rules.proofs.Ordered.{all_plays}
 use Rattle.rules.proofs.Distinct.{listed_play, full_of}
 use Rattle.rules.proofs.Counts.{losing_is_full}
 use Rattle.rules.proofs.Determined.{moves_determine_the_play}
-use Rattle.rules.proofs.Ranges.{place, before_at, in_range, range_in, full_plays_are_counted}
+use Rattle.rules.proofs.Places.{place, at_here, at_map}
+use Rattle.rules.proofs.Ranges.{before_at, in_range, range_in, full_plays_are_counted}
 
 -- whether an ending is a cut by depth
 abbrev by_depth : Ending → Bool
-by_depth failed = false
 by_depth cut_by_depth = true
-by_depth cut_by_steps = false
-by_depth turn = false
+by_depth ending = false
 
 -- whether an ending is a cut by steps
 abbrev by_steps : Ending → Bool
-by_steps failed = false
-by_steps cut_by_depth = false
 by_steps cut_by_steps = true
-by_steps turn = false
+by_steps ending = false
 
 -- how a play of a list ends
 abbrev ending_of : Played → Ending
@@ -49,7 +49,7 @@ NoneFailed plays = (x : Played) → Memᴰ x plays → ending_of x ≡ failed �
 
 -- with a play that has not failed, still none has failed
 one_more : (x : Played) (plays : List Played) → (ending_of x ≡ failed → ⊥) → NoneFailed plays → NoneFailed (x ∷ plays)
-one_more x plays here rest y (Memᴰ.head e) d = here (ap ending_of (sym e) ∙ d)
+one_more x plays here rest y (Memᴰ.head e) d = here (cc)
 one_more x plays here rest y (Memᴰ.tail i) d = rest y i d
 
 -- trying the plays, after n and with the marks so far, comes to safe with this count and these marks
@@ -73,7 +73,7 @@ record FoundLost (plays : List Played) (n : ℕ) (d s : Bool) (trace : List Pass
 safe_more : (x : Played) (plays : List Played) (n : ℕ) (d d' s s' : Bool) (m : ℕ) (e t : Bool) → (ending_of x ≡ failed → ⊥) → ((b : Bool) → d' || b ≡ d || (by_depth (ending_of x) || b)) → ((b : Bool) → s' || b ≡ s || (by_steps (ending_of x) || b)) → FoundSafe plays (suc n) d' s' m e t → FoundSafe (x ∷ plays) n d s m e t
 safe_more x plays n d d' s s' m e t here p q h = record {
   none_failed = one_more x plays here h.none_failed;
-  as_many = let k = h.as_many in omega arith;
+  as_many = omega arith;
   depth_is = h.depth_is ∙ p (some_so by_depth plays);
   steps_is = h.steps_is ∙ q (some_so by_steps plays);
 }
@@ -83,9 +83,9 @@ lost_more : (x : Played) (plays : List Played) (n : ℕ) (d d' s s' : Bool) (tra
 lost_more x plays n d d' s s' trace steps m e t here p q h = record {
   before = x ∷ h.before;
   after = h.after;
-  parts = ap (λ (z : List Played). x ∷ z) h.parts;
+  parts = cc;
   none_failed = one_more x h.before here h.none_failed;
-  as_many = let k = h.as_many in omega arith;
+  as_many = omega arith;
   depth_is = h.depth_is ∙ p (some_so by_depth h.before);
   steps_is = h.steps_is ∙ q (some_so by_steps h.before);
 }
@@ -107,7 +107,7 @@ found_safe [] n d s m e t h =
     let x : n ≡ m = cc in
     let y : d ≡ e = cc in
     let z : s ≡ t = cc in
-    record { none_failed = λ p i. absurd (Memᴰ.not-nil i); as_many = omega arith; depth_is = sym y ∙ sym (or-false d); steps_is = sym z ∙ sym (or-false s) }
+    record { none_failed = λ p i. elim i [ ]; as_many = omega arith; depth_is = sym y ∙ sym (or-false d); steps_is = sym z ∙ sym (or-false s) }
 found_safe (played trace failed steps ∷ plays) n d s m e t h = cc
 found_safe (played trace cut_by_depth steps ∷ plays) n d s m e t h =
     safe_more (played trace cut_by_depth steps) plays n d true s s m e t (apart cut_by_depth (inl refl)) (marks_depth d) (λ b. refl) (found_safe plays (suc n) true s m e t h)
@@ -120,7 +120,6 @@ found_safe (played trace turn steps ∷ plays) n d s m e t h =
 found_lost : (plays : List Played) (n : ℕ) (d s : Bool) (trace : List Pass) (steps m : ℕ) (e t : Bool) → tried plays n d s ≡ lost trace steps m e t → FoundLost plays n d s trace steps m e t
 found_lost [] n d s trace steps m e t h = cc
 found_lost (played trace' failed steps' ∷ plays) n d s trace steps m e t h =
-    let a : trace' ≡ trace = cc in
     let b : steps' ≡ steps = cc in
     let c : suc n ≡ m = cc in
     let y : d ≡ e = cc in
@@ -128,8 +127,8 @@ found_lost (played trace' failed steps' ∷ plays) n d s trace steps m e t h =
     record {
       before = [];
       after = plays;
-      parts = ap (λ (w : List Pass). played w failed steps' ∷ plays) a ∙ ap (λ (k : ℕ). played trace failed k ∷ plays) b;
-      none_failed = λ p i. absurd (Memᴰ.not-nil i);
+      parts = cc;
+      none_failed = λ p i. elim i [ ];
       as_many = omega arith;
       depth_is = sym y ∙ sym (or-false d);
       steps_is = sym z ∙ sym (or-false s);
@@ -152,8 +151,8 @@ some_found so (x ∷ plays) e = go (so (ending_of x)) refl e (some_found so play
 
 -- a play with such an ending is some play of the list
 found_some : (so : Ending → Bool) (plays : List Played) (x : Played) → Memᴰ x plays → so (ending_of x) ≡ true → some_so so plays ≡ true
-found_some so [] x i e = absurd (Memᴰ.not-nil i)
-found_some so (y ∷ plays) x (Memᴰ.head d) e = ap (λ (b : Bool). b || some_so so plays) (ap (λ (z : Played). so (ending_of z)) (sym d) ∙ e)
+found_some so [] x i e = elim i [ ]
+found_some so (y ∷ plays) x (Memᴰ.head d) e = cc
 found_some so (y ∷ plays) x (Memᴰ.tail i) e = go (so (ending_of y)) (found_some so plays x i e)
   where
     go : (b : Bool) → some_so so plays ≡ true → (b || some_so so plays) ≡ true
@@ -162,22 +161,18 @@ found_some so (y ∷ plays) x (Memᴰ.tail i) e = go (so (ending_of y)) (found_s
 
 -- a play with another ending behind the list changes nothing
 some_append : (so : Ending → Bool) (xs : List Played) (trace : List Pass) (e : Ending) (steps : ℕ) → so e ≡ false → some_so so (xs ++ (played trace e steps ∷ [])) ≡ some_so so xs
-some_append so [] trace e steps h = ap (λ (b : Bool). b || false) h
+some_append so [] trace e steps h = cc
 some_append so (x ∷ xs) trace e steps h = ap (λ (b : Bool). so (ending_of x) || b) (some_append so xs trace e steps h)
 
 -- only one ending is a cut by depth
 is_depth : (e : Ending) → by_depth e ≡ true → e ≡ cut_by_depth
-is_depth failed h = cc
 is_depth cut_by_depth h = refl
-is_depth cut_by_steps h = cc
-is_depth turn h = cc
+is_depth ending h = cc
 
 -- only one ending is a cut by steps
 is_steps : (e : Ending) → by_steps e ≡ true → e ≡ cut_by_steps
-is_steps failed h = cc
-is_steps cut_by_depth h = cc
 is_steps cut_by_steps h = refl
-is_steps turn h = cc
+is_steps ending h = cc
 
 module _ (G : Game) (list : WordList) (law : Listed G.meaning list) (plays : List Played) (all : AllPlays G list plays) where
   -- a listed play, by its moves
@@ -206,8 +201,7 @@ module _ (G : Game) (list : WordList) (law : Listed G.meaning list) (plays : Lis
     marked so ending only is false e = λ c.
         let w = Memᴰ.of_map moves_of part (in_part c.0 c.1) in
         let ends = same_ending c.0 c.2 w.0 (sub w.0 w.1) w.2 in
-        let found = found_some so part w.0 w.1 (ap so (sym ends ∙ c.3) ∙ is) in
-        let z : true ≡ false = sym found ∙ e in
+        let found = found_some so part w.0 w.1 (cc) in
         cc
 
     -- the count and both marks of the plays that were tried
@@ -222,7 +216,7 @@ module _ (G : Game) (list : WordList) (law : Listed G.meaning list) (plays : Lis
   losing_listed : (moves : List Move) (x : LosingPlay G moves) → Memᴰ (played x.play.trace failed x.play.steps) plays
   losing_listed moves x =
       all.each_is_listed x.play.trace failed x.play.steps
-      (record { play = subst (λ (e : Ending). PlayFrom G (start G) 0 x.play.trace e x.play.steps) x.lost x.play.play; no_more = λ d. cc })
+      (record { play = rw x.lost at x.play.play; no_more = λ d. cc })
 
   -- where trying comes to safe, the game is safe
   safe_by : (n : ℕ) (d s : Bool) → tried plays 0 false false ≡ safe n d s → Safe G n d s
@@ -232,36 +226,31 @@ module _ (G : Game) (list : WordList) (law : Listed G.meaning list) (plays : Lis
         no_losing_play = λ moves x. h.none_failed _ (losing_listed moves x) refl;
         tried =
             tried_with plays (FullPlay G) (λ x i. i) (full_of G list law plays all) (listed_play G list law plays all) n d s
-            (let k : length plays ≡ n = (let a = h.as_many in omega arith) in subst (Counted (FullPlay G)) k (full_plays_are_counted G list law plays all).counted) h.depth_is h.steps_is;
+            (let k : length plays ≡ n = omega arith in subst (Counted (FullPlay G)) k (full_plays_are_counted G list law plays all).counted) h.depth_is h.steps_is;
       }
 
   module _ (trace : List Pass) (steps n : ℕ) (d s : Bool) (h : FoundLost plays 0 false false trace steps n d s) where
     -- the losing play is among the plays
     here : Memᴰ (played trace failed steps) plays
-    here = subst (λ (z : List Played). Memᴰ (played trace failed steps) z) (sym h.parts) (Memᴰ.append_right h.before (Memᴰ.head refl))
+    here = rw h.parts (Memᴰ.append_right h.before (Memᴰ.head refl))
 
     -- its place
     abbrev j : ℕ
     j = length h.before
 
-    -- what stands behind the first elements of a list
-    at_here : (xs ys : List Played) (x : Played) → at (map moves_of (xs ++ (x ∷ ys))) (length xs) ≡ some (moves_of x)
-    at_here [] ys x = refl
-    at_here (y ∷ xs) ys x = at_here xs ys x
-
     -- its moves stand at its place
     at_j : at (map moves_of plays) j ≡ some (host_moves trace)
-    at_j = ap (λ (z : List Played). at (map moves_of z) j) h.parts ∙ at_here h.before h.after (played trace failed steps)
+    at_j = at_map moves_of plays j (played trace failed steps) (ap (λ (z : List Played). at z j) h.parts ∙ at_here h.before (played trace failed steps) h.after)
 
     -- a play that stands before the losing one
     sooner : (xs ys : List Played) (k : ℕ) (moves : List Move) → k < length xs → at (map moves_of (xs ++ ys)) k ≡ some moves → (x : Played) × Memᴰ x xs × (moves_of x ≡ moves)
     sooner [] ys k moves lt e = absurd (omega arith)
-    sooner (x ∷ xs) ys zero moves lt e = (x, Memᴰ.head refl, (cc))
+    sooner (x ∷ xs) ys zero moves lt e = (x, Memᴰ.head refl, cc)
     sooner (x ∷ xs) ys (suc k) moves lt e = let w = sooner xs ys k moves (omega arith) e in (w.0, Memᴰ.tail w.1, w.2)
 
     -- a play before it is among the plays
     inside : (x : Played) → Memᴰ x h.before → Memᴰ x plays
-    inside x i = subst (λ (z : List Played). Memᴰ x z) (sym h.parts) (Memᴰ.append_left (played trace failed steps ∷ h.after) i)
+    inside x i = rw (← h.parts) at (Memᴰ.append_left (played trace failed steps ∷ h.after) i)
 
     -- no losing play comes before it
     none_sooner : (moves : List Move) → LosingPlay G moves → Before G list moves (host_moves trace) → ⊥
@@ -275,22 +264,15 @@ module _ (G : Game) (list : WordList) (law : Listed G.meaning list) (plays : Lis
     abbrev part : List Played
     part = h.before ++ (played trace failed steps ∷ [])
 
-    -- the first elements of a list, with the one behind them
-    take_here : (xs ys : List Played) (x : Played) → take (suc (length xs)) (map moves_of (xs ++ (x ∷ ys))) ≡ map moves_of (xs ++ (x ∷ []))
-    take_here [] ys x = refl
-    take_here (y ∷ xs) ys x = ap (λ (z : List (List Move)). moves_of y ∷ z) (take_here xs ys x)
-
     -- the first moves are those of the plays up to it
     part_is : take (suc j) (map moves_of plays) ≡ map moves_of part
-    part_is = ap (λ (z : List Played). take (suc j) (map moves_of z)) h.parts ∙ take_here h.before h.after (played trace failed steps)
+    part_is =
+        let e : suc j ≡ length h.before + 1 = omega arith in
+        take-map moves_of (suc j) plays ∙ ap (map moves_of) (ap (take (suc j)) h.parts ∙ ap (λ (n : ℕ). take n (h.before ++ (played trace failed steps ∷ h.after))) e ∙ take-append-add h.before (played trace failed steps ∷ h.after) 1)
 
     -- a play up to it is among the plays
     part_inside : (x : Played) → Memᴰ x part → Memᴰ x plays
-    part_inside x i = go (Memᴰ.append_cases h.before i)
-      where
-        go : Memᴰ x h.before ⊎ Memᴰ x (played trace failed steps ∷ []) → Memᴰ x plays
-        go (inl k) = inside x k
-        go (inr k) = Memᴰ.cast (Memᴰ.eq_of_singleton k) here
+    part_inside x i = ⊎_elim (λ k. inside x k) (λ k. Memᴰ.cast (Memᴰ.eq_of_singleton k) here) (Memᴰ.append_cases h.before i)
 
     -- so the game is lost by it
     lost_so : Lost G list trace steps n d s
@@ -299,9 +281,9 @@ module _ (G : Game) (list : WordList) (law : Listed G.meaning list) (plays : Lis
       first = none_sooner;
       tried =
           tried_with part (FullInRange G list none (host_moves trace)) part_inside
-          (λ x i. range_in G list law plays all j (host_moves trace) at_j (moves_of x) (subst (λ (z : List (List Move)). Memᴰ (moves_of x) z) (sym part_is) (Memᴰ.map moves_of i)))
-          (λ moves r. subst (λ (z : List (List Move)). Memᴰ moves z) part_is (in_range G list law plays all j (host_moves trace) at_j moves r)) n d s
-          (let k : suc j ≡ n = (let a = h.as_many in omega arith) in subst (Counted (FullInRange G list none (host_moves trace))) k ((full_plays_are_counted G list law plays all).counted_up_to j (host_moves trace) at_j))
+          (λ x i. range_in G list law plays all j (host_moves trace) at_j (moves_of x) (rw (← part_is) at (Memᴰ.map moves_of i)))
+          (λ moves r. rw part_is at (in_range G list law plays all j (host_moves trace) at_j moves r)) n d s
+          (let k : suc j ≡ n = omega arith in subst (Counted (FullInRange G list none (host_moves trace))) k ((full_plays_are_counted G list law plays all).counted_up_to j (host_moves trace) at_j))
           (h.depth_is ∙ sym (some_append by_depth h.before trace failed steps refl)) (h.steps_is ∙ sym (some_append by_steps h.before trace failed steps refl));
     }
 

@@ -12,71 +12,53 @@ ghost use Rattle.rules.specs.Endings.{PlayableComesToAnEnd};
 ghost use Rattle.rules.specs.Laws.{FullPlaysAreListed, AtMostStepsMoves, LosingIsFull, MovesDetermineThePlay, FullPlaysAreInOrder, PlayableIsNeverStuck, PlayableHasFewNames, PlaysExtend, ListingsTellPlays};
 
 /// The stepping function takes exactly the steps of the rules, and there is at most one step.
-pub fn steps_are_determined() -> u8
+pub fn steps_are_determined()
     ensures takes_the_steps { (meaning : Meaning) → TakesTheSteps meaning }
     ensures one_step { (meaning : Meaning) → OneStep meaning }
-{
-    0
-}
+{}
 
 /// The worked plays come out as they should, by the definitions.
-pub fn worked_plays_hold() -> u8
+pub fn worked_plays_hold()
     ensures spelled { Spelled }
     ensures worked { Worked }
-{
-    0
-}
+{}
 
 /// The computed list of full plays holds exactly the full plays.
-pub fn full_plays_are_listed() -> u8
+pub fn full_plays_are_listed()
     ensures exactly_the_full_plays { FullPlaysAreListed }
-{
-    0
-}
+{}
 
 /// A play has at most as many host moves as steps are allowed, and a losing play is full.
-pub fn plays_are_bounded() -> u8
+pub fn plays_are_bounded()
     ensures at_most_steps_moves { AtMostStepsMoves }
     ensures losing_is_full { LosingIsFull }
-{
-    0
-}
+{}
 
 /// A play's moves determine what passes, how it ends, and after how many steps.
-pub fn moves_determine_the_play() -> u8
+pub fn moves_determine_the_play()
     ensures one_play_for_each_list_of_moves { MovesDetermineThePlay }
-{
-    0
-}
+{}
 
 /// The computed list of full plays is in order and without repetition, so that its length counts the full plays.
-pub fn full_plays_are_in_order() -> u8
+pub fn full_plays_are_in_order()
     ensures in_order_without_repetition { FullPlaysAreInOrder }
-{
-    0
-}
+{}
 
 /// A mounted library all of whose numbers are lawful is never stuck, and has at most 65,535 names.
-pub fn libraries_are_never_stuck() -> u8
+pub fn libraries_are_never_stuck()
     ensures each_run_ends_or_goes_on { PlayableIsNeverStuck }
     ensures few_names { PlayableHasFewNames }
-{
-    0
-}
+{}
 
 /// Every play extends to a full play.
-pub fn plays_extend() -> u8
+pub fn plays_extend()
     ensures each_play_extends_to_a_full_one { PlaysExtend }
-{
-    0
-}
+{}
 
 /// Two plays with the same listing are the same play.
-pub fn listings_tell_plays() -> u8
+pub fn listings_tell_plays()
     ensures one_play_for_each_listing { ListingsTellPlays }
-{
-    0
-}
+{}
 
 /// A game whose rows mount, whose numbers are lawful and whose arithmetic keeps its laws can be played.
 pub fn mounting_is_playable()
