@@ -1,30 +1,18 @@
 //! The row that the fields of a line spell.
-ghost use Rattle.reader.specs.Fields.{at_end, has_form, method_formed, method_of, one_word, operation_formed, operation_of, parts_formed, row_of, row_parts, section_formed, term_formed, term_of, term_parts, type_formed, type_of};
+ghost use Rattle.reader.specs.Fields.{at_end, has_form, method_formed, method_of, operation_formed, operation_of, parts_formed, row_of, row_parts, section_formed, term_formed, term_of, term_parts, type_formed, type_of};
 ghost use Rattle.text.specs.Remaining.{remaining};
 ghost use Rattle.std.specs.Prelude.{◌≡◌};
 
 use super::keywords::{MethodWord, TermWord, TypeWord};
 use arithmetic::Operation;
 use rows::{MethodForm, Row, Section, TermForm, TypeForm};
-use text::{
-    Fields, Keyword, keyword_of, number, one_number, signed_word, three_numbers, two_numbers,
-};
+use text::{Fields, keyword_of, number};
 
 // A value, where no field is left.
 fn at_end<T: Copy>(value: T, fields: Fields) -> Option<T>
     ensures where_none_is_left { result ≡ at_end value (remaining fields.entry) }
 {
-    match fields.split() {
-        None => Some(value),
-        Some(_) => None,
-    }
-}
-
-// The word of 32 bits that the only field is.
-fn one_word(fields: Fields) -> Option<i32>
-    ensures value { result ≡ one_word (remaining fields.entry) }
-{
-    signed_word(fields.only()?)
+    fields.split().is_none().then_some(value)
 }
 
 // The type that the fields after its number spell.
@@ -35,14 +23,8 @@ fn type_of(fields: Fields) -> Option<TypeForm>
     match keyword_of::<TypeWord>(word)? {
         TypeWord::Unit => at_end(TypeForm::Unit, parts),
         TypeWord::Int => at_end(TypeForm::Int, parts),
-        TypeWord::Pair => {
-            let (a, b) = two_numbers(parts)?;
-            Some(TypeForm::Pair(a, b))
-        }
-        TypeWord::Fun => {
-            let (a, b) = two_numbers(parts)?;
-            Some(TypeForm::Fun(a, b))
-        }
+        TypeWord::Pair => parts.two().map(|(a, b)| TypeForm::Pair(a, b)),
+        TypeWord::Fun => parts.two().map(|(a, b)| TypeForm::Fun(a, b)),
     }
 }
 
@@ -52,15 +34,9 @@ fn method_of(fields: Fields) -> Option<MethodForm>
 {
     let (word, parts) = fields.split()?;
     match keyword_of::<MethodWord>(word)? {
-        MethodWord::Abstract => Some(MethodForm::Abstract(one_number(parts)?)),
-        MethodWord::Public => {
-            let (of, term) = two_numbers(parts)?;
-            Some(MethodForm::Public(of, term))
-        }
-        MethodWord::Private => {
-            let (of, term) = two_numbers(parts)?;
-            Some(MethodForm::Private(of, term))
-        }
+        MethodWord::Abstract => parts.one().map(MethodForm::Abstract),
+        MethodWord::Public => parts.two().map(|(of, term)| MethodForm::Public(of, term)),
+        MethodWord::Private => parts.two().map(|(of, term)| MethodForm::Private(of, term)),
     }
 }
 
@@ -70,8 +46,7 @@ fn operation_of(fields: Fields) -> Option<TermForm>
 {
     let (word, parts) = fields.split()?;
     let operation = keyword_of::<Operation>(word)?;
-    let (a, b) = two_numbers(parts)?;
-    Some(TermForm::Op(operation, a, b))
+    parts.two().map(|(a, b)| TermForm::Op(operation, a, b))
 }
 
 // The term that the fields after its word spell.
@@ -80,38 +55,20 @@ fn term_parts(word: TermWord, fields: Fields) -> Option<TermForm>
 {
     match word {
         TermWord::Unit => at_end(TermForm::Unit, fields),
-        TermWord::Num => Some(TermForm::Num(one_word(fields)?)),
-        TermWord::Var => Some(TermForm::Var(one_number(fields)?)),
-        TermWord::Meth => Some(TermForm::Meth(one_number(fields)?)),
-        TermWord::Get => Some(TermForm::Get(one_number(fields)?)),
-        TermWord::Fst => Some(TermForm::Fst(one_number(fields)?)),
-        TermWord::Snd => Some(TermForm::Snd(one_number(fields)?)),
-        TermWord::Assert => Some(TermForm::Assert(one_number(fields)?)),
+        TermWord::Num => fields.one().map(TermForm::Num),
+        TermWord::Var => fields.one().map(TermForm::Var),
+        TermWord::Meth => fields.one().map(TermForm::Meth),
+        TermWord::Get => fields.one().map(TermForm::Get),
+        TermWord::Fst => fields.one().map(TermForm::Fst),
+        TermWord::Snd => fields.one().map(TermForm::Snd),
+        TermWord::Assert => fields.one().map(TermForm::Assert),
         TermWord::Op => operation_of(fields),
-        TermWord::Lam => {
-            let (x, a) = two_numbers(fields)?;
-            Some(TermForm::Lam(x, a))
-        }
-        TermWord::Set => {
-            let (r, a) = two_numbers(fields)?;
-            Some(TermForm::Set(r, a))
-        }
-        TermWord::Pair => {
-            let (a, b) = two_numbers(fields)?;
-            Some(TermForm::Pair(a, b))
-        }
-        TermWord::App => {
-            let (f, a) = two_numbers(fields)?;
-            Some(TermForm::App(f, a))
-        }
-        TermWord::If => {
-            let (c, a, b) = three_numbers(fields)?;
-            Some(TermForm::If(c, a, b))
-        }
-        TermWord::Let => {
-            let (x, a, b) = three_numbers(fields)?;
-            Some(TermForm::Let(x, a, b))
-        }
+        TermWord::Lam => fields.two().map(|(x, a)| TermForm::Lam(x, a)),
+        TermWord::Set => fields.two().map(|(r, a)| TermForm::Set(r, a)),
+        TermWord::Pair => fields.two().map(|(a, b)| TermForm::Pair(a, b)),
+        TermWord::App => fields.two().map(|(f, a)| TermForm::App(f, a)),
+        TermWord::If => fields.three().map(|(c, a, b)| TermForm::If(c, a, b)),
+        TermWord::Let => fields.three().map(|(x, a, b)| TermForm::Let(x, a, b)),
     }
 }
 
@@ -128,14 +85,13 @@ fn row_parts(section: Section, running: u32, fields: Fields) -> Option<Row>
     ensures value { result ≡ row_parts section running (remaining fields.entry) }
 {
     match section {
-        Section::Types => Some(Row::Type(running, type_of(fields)?)),
-        Section::Variables => Some(Row::Variable(running, one_number(fields)?)),
-        Section::Methods => Some(Row::Method(running, method_of(fields)?)),
-        Section::Globals => {
-            let (of, term) = two_numbers(fields)?;
-            Some(Row::Global(running, of, term))
-        }
-        Section::Terms => Some(Row::Term(running, term_of(fields)?)),
+        Section::Types => type_of(fields).map(|form| Row::Type(running, form)),
+        Section::Variables => fields.one().map(|of| Row::Variable(running, of)),
+        Section::Methods => method_of(fields).map(|form| Row::Method(running, form)),
+        Section::Globals => fields
+            .two()
+            .map(|(of, term)| Row::Global(running, of, term)),
+        Section::Terms => term_of(fields).map(|form| Row::Term(running, form)),
     }
 }
 
