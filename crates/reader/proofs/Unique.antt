@@ -224,8 +224,11 @@ one_answer room text (Err p) (Err q) rs ss h k =
     (λ r. ⊎_elim (λ s. let short = s.0.short in absurd (omega (arith, r.0))) (λ s. (ap Err (r.1 ∙ sym s.1), r.2 ∙ sym s.2)) k)
     h
 
--- what is told of the answer and the rows holds of every answer that a text has
-pub told_of_every : (room : ℕ) (text : List ℕ) (a : Result Counts (Placed TextFault)) (rs old rows : List Row) → Reads room text a rs → rows ≡ rs ++ drop (length rs) old → (answer : Result Counts (Placed TextFault)) (filled : List Row) → Reads room text answer filled → (answer ≡ a) × (rows ≡ filled ++ drop (length filled) old)
-told_of_every room text a rs old rows h is answer filled k =
-    let same = one_answer room text answer a filled rs k h in
-    (same.0, is ∙ ap (λ l. l ++ drop (length l) old) (sym same.1))
+-- an answer that is told of a text with the rows that are filled, and that no other answer is told
+pub only_answer : (room : ℕ) (text : List ℕ) (a : Result Counts (Placed TextFault)) (rs old rows : List Row) → Reads room text a rs → rows ≡ rs ++ drop (length rs) old → ((filled : List Row) × Reads room text a filled × (rows ≡ filled ++ drop (length filled) old)) × ((answer : Result Counts (Placed TextFault)) (filled : List Row) → Reads room text answer filled → (answer ≡ a) × (rows ≡ filled ++ drop (length filled) old))
+only_answer room text a rs old rows h is = ((rs, h, is), every)
+  where
+    every : (answer : Result Counts (Placed TextFault)) (filled : List Row) → Reads room text answer filled → (answer ≡ a) × (rows ≡ filled ++ drop (length filled) old)
+    every answer filled k =
+        let same = one_answer room text answer a filled rs k h in
+        (same.0, is ∙ ap (λ l. l ++ drop (length l) old) (sym same.1))

@@ -10,7 +10,6 @@ ghost use Rattle.std.specs.Prelude.{◌≡◌, List, ◌++◌, length, drop, Res
 
 use faults::{Placed, TextFault};
 use rows::{Counts, Row, Tally};
-use text::first_line;
 
 mod forms;
 mod keywords;
@@ -32,26 +31,19 @@ pub fn read(text: &[u8], rows: &mut [Row]) -> Result<Counts, Placed<TextFault>>
         });
     }
     let mut tally = Tally::new();
-    let mut count: usize = 0;
-    let mut rest = text;
-    while !rest.is_empty() {
+    for (count, line) in text.split_inclusive(|byte| *byte == b'\n').enumerate() {
         let place = count as u32 + 1;
-        let Some((line, after)) = first_line(rest) else {
+        let Some(body) = line.strip_suffix(b"\n") else {
             return Err(Placed {
                 place,
                 fault: TextFault::Form,
             });
         };
         let room = count < rows.len();
-        match spelled::next_row(line, &rows[0..count], tally, room) {
-            Ok(admitted) => {
-                rows[count] = admitted.row;
-                tally = admitted.tally;
-            }
-            Err(fault) => return Err(Placed { place, fault }),
-        }
-        count += 1;
-        rest = after;
+        let told = spelled::next_row(body, &rows[..count], tally, room);
+        let admitted = told.map_err(|fault| Placed { place, fault })?;
+        rows[count] = admitted.row;
+        tally = admitted.tally;
     }
     Ok(tally.counts())
 }
