@@ -1,11 +1,11 @@
 -- A line has a form just where its fields have one. Assumes nothing.
-use Rattle.std.proofs.Common.{◌≡◌, ℕ, Bool, true, eqb, List, [], ◌∷◌, length, replicate, pos, Some, None, Option, sym, refl, ◌∙◌, subst, eq-eqb, true-eqb}
+use Rattle.std.proofs.Common.{◌≡◌, ℕ, Bool, true, eqb, List, [], ◌∷◌, length, replicate, pos, Some, None, Option, sym, refl, subst, rules, true-eqb}
 use Rattle.std.specs.List.{AllByRecursion}
 use Rattle.arithmetic.specs.declared.Operation.{Operation}
 use Rattle.arithmetic.specs.Words.{operation_word, operation_table}
-use Rattle.text.specs.Slots.{Slot, literal, number, word, Free, Fits}
+use Rattle.text.specs.Slots.{literal, number, word, Free, Fits}
 use Rattle.text.specs.Reading.{keyword_of}
-use Rattle.text.proofs.Forms.{fits_length, word_first}
+use Rattle.text.proofs.Forms.{fits_length}
 use Rattle.text.proofs.Laws.{keyword_found}
 use Rattle.rows.specs.declared.forms.TypeForm.{TypeForm}
 use Rattle.rows.specs.declared.forms.TypeForm.TheVariants.{Unit as UnitType, Int as IntType, Pair as PairType, Fun as FunType}
@@ -26,67 +26,12 @@ use Rattle.reader.specs.declared.keywords.MethodWord.TheVariants.{Abstract, Publ
 use Rattle.reader.specs.declared.keywords.TermWord.{TermWord}
 use Rattle.reader.specs.declared.keywords.TermWord.TheVariants.{Unit as UnitWord, Num, Var, Meth, Get, Lam, Set, Op, Pair, Fst, Snd, App, If, Let, Assert}
 use Rattle.reader.specs.Words.{type_word, type_table, method_word, method_table, term_word, term_table}
-use Rattle.reader.specs.Fields.{formed_after, formed_by, type_counted, type_formed, method_counted, method_formed, operation_counted, operation_formed, parts_formed, term_formed, section_formed, numbered_formed, has_form}
+use Rattle.reader.specs.Fields.{formed_after, formed_by, type_counted, type_formed, method_counted, method_formed, operation_counted, operation_formed, parts_formed, term_formed, numbered_formed, has_form}
 use Rattle.reader.proofs.Spelling.{operation_found}
 
--- fields that fit slots are as many
-counted : (ss : List Slot) (hs : List (List ℕ)) → Fits ss hs → eqb (length hs) (length ss) ≡ true
-counted ss hs h = eq-eqb (length hs) (length ss) (fits_length ss hs h)
-
--- fields that fit a keyword and the slots of its parts have a form
-fits_by : {K : Type 0} (spelled : K → List ℕ) (table : List K) (takes : K → List (List ℕ) → Bool) (k : K) → keyword_of spelled table (spelled k) ≡ Some k → (ss : List Slot) → ((hs : List (List ℕ)) → Fits ss hs → takes k hs ≡ true) → (gs : List (List ℕ)) → Fits (literal (spelled k) ∷ ss) gs → formed_by spelled table takes gs ≡ true
-fits_by spelled table takes k found ss passes gs h =
-    let p = word_first (spelled k) ss gs h in
-    rw (p.1, found) (passes p.0 p.2)
-
-counted_fits : {K : Type 0} (spelled : K → List ℕ) (table : List K) (takes : K → List (List ℕ) → Bool) (k : K) → keyword_of spelled table (spelled k) ≡ Some k → (ss : List Slot) → ((hs : List (List ℕ)) → takes k hs ≡ eqb (length hs) (length ss)) → (gs : List (List ℕ)) → Fits (literal (spelled k) ∷ ss) gs → formed_by spelled table takes gs ≡ true
-counted_fits spelled table takes k found ss counts = fits_by spelled table takes k found ss (λ hs h. counts hs ∙ counted ss hs h)
-
-type_fits : (f : TypeForm) (gs : List (List ℕ)) → Fits (type_slots f) gs → type_formed gs ≡ true
-type_fits UnitType = counted_fits type_word type_table type_counted UnitTypeWord refl [] (λ hs. refl)
-type_fits IntType = counted_fits type_word type_table type_counted Int refl [] (λ hs. refl)
-type_fits (PairType a b) = counted_fits type_word type_table type_counted PairTypeWord refl (number a ∷ number b ∷ []) (λ hs. refl)
-type_fits (FunType a b) = counted_fits type_word type_table type_counted Fun refl (number a ∷ number b ∷ []) (λ hs. refl)
-
-method_fits : (f : MethodForm) (gs : List (List ℕ)) → Fits (method_slots f) gs → method_formed gs ≡ true
-method_fits (AbstractMethod t) = counted_fits method_word method_table method_counted Abstract refl (number t ∷ []) (λ hs. refl)
-method_fits (PublicMethod t e) = counted_fits method_word method_table method_counted Public refl (number t ∷ number e ∷ []) (λ hs. refl)
-method_fits (PrivateMethod t e) = counted_fits method_word method_table method_counted Private refl (number t ∷ number e ∷ []) (λ hs. refl)
-
-operation_fits : (o : Operation) (a b : ℕ) (gs : List (List ℕ)) → Fits (literal (operation_word o) ∷ number a ∷ number b ∷ []) gs → operation_formed gs ≡ true
-operation_fits o a b = counted_fits operation_word operation_table operation_counted o (operation_found o) (number a ∷ number b ∷ []) (λ hs. refl)
-
-term_fits : (f : TermForm) (gs : List (List ℕ)) → Fits (term_slots f) gs → term_formed gs ≡ true
-term_fits UnitTerm = counted_fits term_word term_table parts_formed UnitWord refl [] (λ hs. refl)
-term_fits (NumTerm i) = counted_fits term_word term_table parts_formed Num refl (word i ∷ []) (λ hs. refl)
-term_fits (OpTerm o a b) = fits_by term_word term_table parts_formed Op refl (literal (operation_word o) ∷ number a ∷ number b ∷ []) (operation_fits o a b)
-term_fits (VarTerm a) = counted_fits term_word term_table parts_formed Var refl (number a ∷ []) (λ hs. refl)
-term_fits (MethTerm a) = counted_fits term_word term_table parts_formed Meth refl (number a ∷ []) (λ hs. refl)
-term_fits (GetTerm a) = counted_fits term_word term_table parts_formed Get refl (number a ∷ []) (λ hs. refl)
-term_fits (FstTerm a) = counted_fits term_word term_table parts_formed Fst refl (number a ∷ []) (λ hs. refl)
-term_fits (SndTerm a) = counted_fits term_word term_table parts_formed Snd refl (number a ∷ []) (λ hs. refl)
-term_fits (AssertTerm a) = counted_fits term_word term_table parts_formed Assert refl (number a ∷ []) (λ hs. refl)
-term_fits (LamTerm a b) = counted_fits term_word term_table parts_formed Lam refl (number a ∷ number b ∷ []) (λ hs. refl)
-term_fits (SetTerm a b) = counted_fits term_word term_table parts_formed Set refl (number a ∷ number b ∷ []) (λ hs. refl)
-term_fits (PairTerm a b) = counted_fits term_word term_table parts_formed Pair refl (number a ∷ number b ∷ []) (λ hs. refl)
-term_fits (AppTerm a b) = counted_fits term_word term_table parts_formed App refl (number a ∷ number b ∷ []) (λ hs. refl)
-term_fits (IfTerm a b c) = counted_fits term_word term_table parts_formed If refl (number a ∷ number b ∷ number c ∷ []) (λ hs. refl)
-term_fits (LetTerm a b c) = counted_fits term_word term_table parts_formed Let refl (number a ∷ number b ∷ number c ∷ []) (λ hs. refl)
-
--- the fields after a section's word: a number, and what fits the slots after it
-after_number : (s : Section) (n : ℕ) (ss : List Slot) → ((hs : List (List ℕ)) → Fits ss hs → section_formed s hs ≡ true) → (gs : List (List ℕ)) → Fits (number n ∷ ss) gs → numbered_formed s gs ≡ true
-after_number s n ss passes [] h = absurd h
-after_number s n ss passes (g ∷ gs) h = passes gs h.1
-
-row_fits_by : (s : Section) → keyword_of section_word section_table (section_word s) ≡ Some s → (n : ℕ) (ss : List Slot) → ((hs : List (List ℕ)) → Fits ss hs → section_formed s hs ≡ true) → (gs : List (List ℕ)) → Fits (literal (section_word s) ∷ number n ∷ ss) gs → has_form gs ≡ true
-row_fits_by s found n ss passes = fits_by section_word section_table numbered_formed s found (number n ∷ ss) (after_number s n ss passes)
-
+-- fields that fit a row's slots have a form
 pub row_fits : (row : Row) (gs : List (List ℕ)) → Fits (slots row) gs → has_form gs ≡ true
-row_fits (TypeRow n f) = row_fits_by Types refl n (type_slots f) (type_fits f)
-row_fits (VariableRow n t) = row_fits_by Variables refl n (number t ∷ []) (counted (number t ∷ []))
-row_fits (MethodRow n f) = row_fits_by Methods refl n (method_slots f) (method_fits f)
-row_fits (GlobalRow n t e) = row_fits_by Globals refl n (number t ∷ number e ∷ []) (counted (number t ∷ number e ∷ []))
-row_fits (TermRow n f) = row_fits_by Terms refl n (term_slots f) (term_fits f)
+row_fits = search (rules, fits_length, operation_found)
 
 -- free fields fit number slots, if there are as many
 numbers_fit : (gs : List (List ℕ)) → AllByRecursion Free gs → Fits (replicate (length gs) (number 0)) gs

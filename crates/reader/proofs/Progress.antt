@@ -1,5 +1,5 @@
 -- How far a text is read, and what one line more adds. Assumes nothing.
-use Rattle.std.proofs.Common.{◌≡◌, ℕ, ◌+◌, ◌<◌, ◌≤◌, Bool, true, false, cond, eqb, ltb, List, [], ◌∷◌, ◌++◌, length, take, drop, set, Ok, Err, Result, sym, refl, ap, ◌∙◌, subst, inl, inr, ⊎_elim, append_assoc, append-nil, arith, length-append, length-set, take-append-drop, ltb-true, lt-ltb}
+use Rattle.std.proofs.Common.{◌≡◌, ℕ, ◌+◌, ◌<◌, ◌≤◌, Bool, true, false, cond, eqb, ltb, List, [], ◌∷◌, ◌++◌, length, take, drop, set, Ok, Err, Result, sym, refl, ap, ◌∙◌, subst, inl, inr, ⊎_elim, append_assoc, append-nil, arith, length-append, length-set, take-append-drop, ltb-true, lt-ltb, rules}
 use Rattle.std.proofs.lemmas.List.{take_more_set, drop-set-lt, get_or_append_left, get_or_push, take-append-le, take_all, length-take-le, drop-drop}
 use Rattle.std.proofs.str.Laws.{order}
 use Rattle.rows.specs.declared.forms.Row.{Row}
@@ -9,7 +9,6 @@ use Rattle.rows.specs.Faults.{Faultless, Least, NoneOf, RowFault}
 use Rattle.rows.specs.Tallies.{Tallied, CountsOf}
 use Rattle.rows.specs.Sections.{section, place, count}
 use Rattle.rows.specs.declared.forms.Section.TheVariants.{Types, Variables, Methods, Globals, Terms}
-use Rattle.rows.specs.declared.forms.Row.TheVariants.{«Type» as TypeRow, Variable as VariableRow, Method as MethodRow, Global as GlobalRow, Term as TermRow}
 use Rattle.std.specs.Result.{MatchResult, IsErrAnd}
 use Rattle.faults.specs.declared.TextFault.{TextFault}
 use Rattle.faults.specs.declared.TextFault.TheVariants.{Limit}
@@ -45,11 +44,7 @@ faultless_push rs row h here i r lt is = ⊎_elim older newest (order i (length 
 
 -- the counts of all sections add up to the rows
 one_section : (r : Row) → cond (eqb (place (section r)) 0) 1 0 + cond (eqb (place (section r)) 1) 1 0 + cond (eqb (place (section r)) 2) 1 0 + cond (eqb (place (section r)) 3) 1 0 + cond (eqb (place (section r)) 4) 1 0 ≡ 1
-one_section (TypeRow n f) = refl
-one_section (VariableRow n t) = refl
-one_section (MethodRow n f) = refl
-one_section (GlobalRow n t e) = refl
-one_section (TermRow n f) = refl
+one_section = search rules
 
 all_sections : (rows : List Row) → count Types rows + count Variables rows + count Methods rows + count Globals rows + count Terms rows ≡ length rows
 all_sections [] = refl

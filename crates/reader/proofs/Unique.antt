@@ -1,9 +1,8 @@
 -- A text has one answer. Assumes nothing.
-use Rattle.std.proofs.Common.{◌≡◌, ℕ, ◌+◌, ◌<◌, ◌≤◌, true, ltb, List, [], ◌∷◌, ◌++◌, length, take, drop, Some, None, Ok, Err, Option, Result, sym, refl, ap, ◌∙◌, subst, ⊎_elim, append_assoc, append-nil, arith, length-append, lt-ltb}
+use Rattle.std.proofs.Common.{◌≡◌, ℕ, ◌+◌, ◌<◌, ◌≤◌, true, ltb, List, [], ◌∷◌, ◌++◌, length, take, drop, Some, None, Ok, Err, Option, Result, sym, refl, ap, ◌∙◌, subst, ⊎_elim, append_assoc, append-nil, arith, length-append, lt-ltb, rules}
 use Rattle.std.proofs.lemmas.List.{take-append-le, take_all, get_or_at}
 use Rattle.faults.specs.declared.Placed.{Placed}
 use Rattle.faults.specs.declared.TextFault.{TextFault}
-use Rattle.faults.specs.declared.TextFault.TheVariants.{Form, Number, Order, Reference, Limit, Repeat}
 use Rattle.faults.specs.Numbers.{text_number}
 use Rattle.faults.proofs.Once.{least_once}
 use Rattle.text.specs.Slots.{Lacks}
@@ -19,42 +18,7 @@ use Rattle.reader.proofs.Lines.{line_body, spells_one, no_line_fault}
 
 -- a fault is told by its number
 same_fault : (f g : TextFault) → text_number f ≡ text_number g → f ≡ g
-same_fault Form Form e = refl
-same_fault Form Number e = absurd (omega arith)
-same_fault Form Order e = absurd (omega arith)
-same_fault Form Reference e = absurd (omega arith)
-same_fault Form Limit e = absurd (omega arith)
-same_fault Form Repeat e = absurd (omega arith)
-same_fault Number Form e = absurd (omega arith)
-same_fault Number Number e = refl
-same_fault Number Order e = absurd (omega arith)
-same_fault Number Reference e = absurd (omega arith)
-same_fault Number Limit e = absurd (omega arith)
-same_fault Number Repeat e = absurd (omega arith)
-same_fault Order Form e = absurd (omega arith)
-same_fault Order Number e = absurd (omega arith)
-same_fault Order Order e = refl
-same_fault Order Reference e = absurd (omega arith)
-same_fault Order Limit e = absurd (omega arith)
-same_fault Order Repeat e = absurd (omega arith)
-same_fault Reference Form e = absurd (omega arith)
-same_fault Reference Number e = absurd (omega arith)
-same_fault Reference Order e = absurd (omega arith)
-same_fault Reference Reference e = refl
-same_fault Reference Limit e = absurd (omega arith)
-same_fault Reference Repeat e = absurd (omega arith)
-same_fault Limit Form e = absurd (omega arith)
-same_fault Limit Number e = absurd (omega arith)
-same_fault Limit Order e = absurd (omega arith)
-same_fault Limit Reference e = absurd (omega arith)
-same_fault Limit Limit e = refl
-same_fault Limit Repeat e = absurd (omega arith)
-same_fault Repeat Form e = absurd (omega arith)
-same_fault Repeat Number e = absurd (omega arith)
-same_fault Repeat Order e = absurd (omega arith)
-same_fault Repeat Reference e = absurd (omega arith)
-same_fault Repeat Limit e = absurd (omega arith)
-same_fault Repeat Repeat e = refl
+same_fault = search rules
 
 -- bytes up to the first line feed
 pub first_feed : (xs ys t u : List ℕ) → Lacks 10 xs → Lacks 10 ys → xs ++ (10 ∷ t) ≡ ys ++ (10 ∷ u) → (xs ≡ ys) × (t ≡ u)
