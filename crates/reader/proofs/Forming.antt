@@ -1,10 +1,9 @@
 -- A line has a form just where its fields have one. Assumes nothing.
-use Rattle.std.proofs.Common.{◌≡◌, ℕ, Bool, true, eqb, List, [], ◌∷◌, length, replicate, pos, Some, None, Option, sym, refl, subst, rules, true-eqb}
+use Rattle.std.proofs.Common.{◌≡◌, ℕ, Bool, true, eqb, List, [], ◌∷◌, length, replicate, pos, sym, refl, subst, rules, true-eqb}
 use Rattle.std.specs.List.{AllByRecursion}
 use Rattle.arithmetic.specs.declared.Operation.{Operation}
 use Rattle.arithmetic.specs.Words.{operation_word, operation_table}
 use Rattle.text.specs.Slots.{literal, number, word, Free, Fits}
-use Rattle.text.specs.Reading.{keyword_of}
 use Rattle.text.proofs.Forms.{fits_length}
 use Rattle.text.proofs.Laws.{keyword_found}
 use Rattle.rows.specs.declared.forms.TypeForm.{TypeForm}
@@ -26,7 +25,7 @@ use Rattle.reader.specs.declared.keywords.MethodWord.TheVariants.{Abstract, Publ
 use Rattle.reader.specs.declared.keywords.TermWord.{TermWord}
 use Rattle.reader.specs.declared.keywords.TermWord.TheVariants.{Unit as UnitWord, Num, Var, Meth, Get, Lam, Set, Op, Pair, Fst, Snd, App, If, Let, Assert}
 use Rattle.reader.specs.Words.{type_word, type_table, method_word, method_table, term_word, term_table}
-use Rattle.reader.specs.Fields.{formed_after, formed_by, type_counted, type_formed, method_counted, method_formed, operation_counted, operation_formed, parts_formed, term_formed, numbered_formed, has_form}
+use Rattle.reader.specs.Fields.{formed_by, type_counted, type_formed, method_counted, method_formed, operation_counted, operation_formed, parts_formed, term_formed, numbered_formed, has_form}
 use Rattle.reader.proofs.Spelling.{operation_found}
 
 -- fields that fit a row's slots have a form
@@ -48,12 +47,7 @@ word_fit (f ∷ gs) h = h
 
 -- free fields that have a form fit something, if those after each keyword do
 formed_with : {K X : Type 0} (spelled : K → List ℕ) (table : List K) (takes : K → List (List ℕ) → Bool) (Fit : X → List (List ℕ) → Type 0) → ((k : K) (gs : List (List ℕ)) → AllByRecursion Free gs → takes k gs ≡ true → (x : X) × Fit x (spelled k ∷ gs)) → (gs : List (List ℕ)) → AllByRecursion Free gs → formed_by spelled table takes gs ≡ true → (x : X) × Fit x gs
-formed_with spelled table takes Fit with_word [] free e = cc
-formed_with {K = K} {X = X} spelled table takes Fit with_word (w ∷ gs) free e = go (keyword_of spelled table w) refl e
-  where
-    go : (k : Option K) → keyword_of spelled table w ≡ k → formed_after takes k gs ≡ true → (x : X) × Fit x (w ∷ gs)
-    go None found h = cc
-    go (Some k) found h = subst (λ v. (x : X) × Fit x (v ∷ gs)) (keyword_found spelled table w k found) (with_word k gs free.1 h)
+formed_with = search (rules, keyword_found)
 
 type_with : (k : TypeWord) (gs : List (List ℕ)) → AllByRecursion Free gs → type_counted k gs ≡ true → (f : TypeForm) × Fits (type_slots f) (type_word k ∷ gs)
 type_with UnitTypeWord gs free e = (UnitType, (refl, count_fit 0 gs free e))

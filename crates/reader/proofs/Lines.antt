@@ -10,7 +10,7 @@ use Rattle.faults.specs.declared.TextFault.TheVariants.{Form, Number, Order, Ref
 use Rattle.faults.specs.Numbers.{text_number}
 use Rattle.text.specs.Slots.{Slot, literal, number, word, written, InRange, Lacks, Free, Fits, commas}
 use Rattle.text.specs.Reading.{cut}
-use Rattle.text.proofs.Laws.{none_some, commas_cut, cut_free}
+use Rattle.text.proofs.Laws.{commas_cut, cut_free}
 use Rattle.text.proofs.Forms.{words_free, written_all_free, fits_free, written_fits, commas_lack, cut_fields}
 use Rattle.rows.specs.declared.forms.Row.{Row}
 use Rattle.rows.specs.Printing.{slots, row_line}
@@ -52,7 +52,7 @@ module _ (body : List ℕ) (lacks : Lacks 10 body) where
       record { in_range = x.0; printing = ap (λ b. b ++ (10 ∷ [])) (sym (ap commas x.1 ∙ commas_cut body)) }
 
   pub spells_none : row_of (cut body) ≡ None → (row : Row) → Spells (body ++ (10 ∷ [])) row → ⊥
-  spells_none e row h = none_some row (sym e ∙ row_fields row h)
+  spells_none e row h = let f = row_fields row h in cc
 
   pub spells_same : (row other : Row) → row_of (cut body) ≡ Some row → Spells (body ++ (10 ∷ [])) other → other ≡ row
   spells_same row other e h = let f = row_fields other h in cc
@@ -81,12 +81,7 @@ module _ (body : List ℕ) (lacks : Lacks 10 body) where
     of_row Repeat f = subst (λ r. RowFault room before r Repeat) (spells_same row f.0 found f.1) f.2
 
     to_line : (fault : TextFault) → RowFault room before row fault → LineFault room before (body ++ (10 ∷ [])) fault
-    to_line Form f = absurd f
-    to_line Number f = absurd (f spelled.in_range)
-    to_line Order f = (row, spelled, f)
-    to_line Reference f = (row, spelled, f)
-    to_line Limit f = ⊎_elim (λ g. inl (row, spelled, inl g)) inr f
-    to_line Repeat f = (row, spelled, f)
+    to_line = search (rules, spelled)
 
     pub line_least : (fault : TextFault) → Least (RowFault room before row) fault → Least (LineFault room before (body ++ (10 ∷ []))) fault
     line_least fault l = record { here = to_line fault l.here; none_smaller = λ other lt f. l.none_smaller other lt (of_row other f) }

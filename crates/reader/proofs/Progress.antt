@@ -1,6 +1,7 @@
 -- How far a text is read, and what one line more adds. Assumes nothing.
-use Rattle.std.proofs.Common.{◌≡◌, ℕ, ◌+◌, ◌<◌, ◌≤◌, Bool, true, false, cond, eqb, ltb, List, [], ◌∷◌, ◌++◌, length, take, drop, set, Ok, Err, Result, sym, refl, ap, ◌∙◌, subst, inl, inr, ⊎_elim, append_assoc, append-nil, arith, length-append, length-set, take-append-drop, ltb-true, lt-ltb, rules}
-use Rattle.std.proofs.lemmas.List.{take_more_set, drop-set-lt, get_or_append_left, get_or_push, take-append-le, take_all, length-take-le, drop-drop}
+use Rattle.std.proofs.Common.{◌≡◌, ℕ, ◌+◌, ◌<◌, ◌≤◌, true, cond, eqb, ltb, List, [], ◌∷◌, ◌++◌, length, take, drop, set, Ok, Err, Result, sym, refl, ap, ◌∙◌, subst, inl, ⊎_elim, append_assoc, append-nil, arith, length-append, length-set, lt-ltb, rules}
+use Rattle.std.proofs.lemmas.Grind.{common_steps}
+use Rattle.std.proofs.lemmas.List.{nil_from_length, take_more_set, get_or_append_left, get_or_push, take-append-le, take_all, length-take-le}
 use Rattle.std.proofs.str.Laws.{order}
 use Rattle.rows.specs.declared.forms.Row.{Row}
 use Rattle.rows.specs.declared.tally.Counts.{Counts}
@@ -63,20 +64,21 @@ Refuses n rows body fault = Least (LineFault (ltb n (length rows)) (take n rows)
 
 -- what is said of a result holds of it with its error mapped
 pub mapped_ok : {X E D : Type 0} (r : Result X E) {m : Result X D} (P : X → Type 0) (Q : E → Type 0) (R : E → D → Type 0) (x : X) → MatchResult r P Q → MatchResult r (λ y. m ≡ Ok y) (λ e. IsErrAnd m (R e)) → m ≡ Ok x → P x
-mapped_ok (Ok y) P Q R x told is e = let same : y ≡ x = cc in subst P same told
-mapped_ok (Err f) P Q R x told is e = absurd (subst (λ m. IsErrAnd m (R f)) e is)
+mapped_ok = search rules
 
 pub mapped_err : {X E D : Type 0} (r : Result X E) {m : Result X D} (P : X → Type 0) (Q : E → Type 0) (R : E → D → Type 0) (d : D) → MatchResult r P Q → MatchResult r (λ y. m ≡ Ok y) (λ e. IsErrAnd m (R e)) → m ≡ Err d → (e : E) × R e d × Q e
-mapped_err (Ok y) P Q R d told is e = cc
-mapped_err (Err f) P Q R d told is e = (f, subst (λ m. IsErrAnd m (R f)) e is, told)
+mapped_err = search rules
 
 -- a row that is admitted has a place among the rows handed in
 pub inside : (n : ℕ) (rows : List Row) (body : List ℕ) (p : Admitted) → Admits n rows body p → n < length rows
-inside n rows body p admits = room_left (ltb n (length rows)) refl
-  where
-    room_left : (b : Bool) → ltb n (length rows) ≡ b → n < length rows
-    room_left true e = ltb-true n (length rows) e
-    room_left false e = absurd (admits.1 Limit (inr e))
+inside n rows body p admits = let full = admits.1 Limit in grind (arith, common_steps)
+
+-- what is printed, and what is left as it was, after one row more
+more_printed : (text rest body after : List ℕ) (rows : List Row) (row : Row) → text ≡ row_lines rows ++ rest → rest ≡ body ++ (10 ∷ after) → body ++ (10 ∷ []) ≡ row_line row → text ≡ row_lines (rows ++ (row ∷ [])) ++ after
+more_printed = grind (arith, common_steps, lines_push)
+
+others_kept : {X : Type 0} (rows old : List X) (count : ℕ) (row : X) → count < length rows → drop count rows ≡ drop count old → drop (count + 1) (set rows count row) ≡ drop (count + 1) old
+others_kept = grind (arith, common_steps)
 
 module _ (text : List ℕ) (old rows : List Row) (count : ℕ) (rest : List ℕ) (c : Counts) (table : List ℕ) (h : SoFar text old rows count rest c table) where
   -- one line more
@@ -90,23 +92,15 @@ module _ (text : List ℕ) (old rows : List Row) (count : ℕ) (rest : List ℕ)
         long = length-set rows count row ∙ h.long;
         fits = omega (arith, length-set rows count row);
         few = omega (arith, h.few, ap length parts, length-append body (10 ∷ after));
-        printing =
-            h.printing ∙ ap (λ bs. row_lines (take count rows) ++ bs) (parts ∙ sym (append_assoc body (10 ∷ []) after) ∙ ap (λ l. l ++ after) admits.0.printing)
-            ∙ sym (append_assoc (row_lines (take count rows)) (row_line row) after)
-            ∙ ap (λ bs. bs ++ after) (sym (lines_push (take count rows) row) ∙ ap row_lines (sym same));
-        faultless = subst Faultless (sym same) (faultless_push (take count rows) row h.faultless here);
-        others = drop-set-lt (count + 1) rows count row (omega arith) ∙ drop_after h.others;
-        tallied = subst (λ rs. Tallied rs p.tally.counts p.tally.leaves) (sym same) admits.2;
+        printing = rw same (more_printed text rest body after (take count rows) row h.printing parts admits.0.printing);
+        faultless = rw same (faultless_push (take count rows) row h.faultless here);
+        others = others_kept rows old count row lt h.others;
+        tallied = rw same admits.2;
       }
-    where
-      drop_after : drop count rows ≡ drop count old → drop (count + 1) rows ≡ drop (count + 1) old
-      drop_after e = sym (drop-drop 1 count rows) ∙ ap (drop 1) e ∙ drop-drop 1 count old
 
   -- the rows that are filled, and the others
   pub all_rows : rows ≡ take count rows ++ drop (length (take count rows)) old
-  all_rows =
-      let n : length (take count rows) ≡ count = length-take-le count rows h.fits in
-      sym (take-append-drop count rows) ∙ ap (λ rs. take count rows ++ rs) (h.others ∙ ap (λ k. drop k old) (sym n))
+  all_rows = let fits = h.fits in let others = h.others in grind (arith, common_steps)
 
   pub refused : length text ≤ most_bytes → (line later : List ℕ) → FirstLine rest line later → (fault : TextFault) → Least (LineFault (ltb count (length rows)) (take count rows) line) fault → Reads (length old) text (Err (record { place = count + 1; fault = fault })) (take count rows)
   refused short line later first fault least =
@@ -129,11 +123,7 @@ module _ (text : List ℕ) (old rows : List Row) (count : ℕ) (rest : List ℕ)
   pub granted : length text ≤ most_bytes → length rest ≡ 0 → Reads (length old) text (Ok c) (take count rows)
   granted short none =
       let n : length (take count rows) ≡ count = length-take-le count rows h.fits in (
-        record { short = short; printing = h.printing ∙ ap (λ bs. row_lines (take count rows) ++ bs) (empty rest none) ∙ append-nil (row_lines (take count rows)); faultless = h.faultless; fits = omega (arith, h.fits, h.long) },
+        record { short = short; printing = h.printing ∙ ap (λ bs. row_lines (take count rows) ++ bs) (nil_from_length rest none) ∙ append-nil (row_lines (take count rows)); faultless = h.faultless; fits = omega (arith, h.fits, h.long) },
         h.tallied.counts,
         total (take count rows) c h.tallied.counts,
       )
-    where
-      empty : (bs : List ℕ) → length bs ≡ 0 → bs ≡ []
-      empty [] e = refl
-      empty (b ∷ bs) e = absurd (omega arith)
