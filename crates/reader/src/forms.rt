@@ -41,6 +41,7 @@ pub(crate) fn has_form<W: FormWord>(fields: Fields) -> bool
     let Some((word, parts)) = fields.split() else {
         return false;
     };
+    // Kept as a match: of a closure that calls a bound's method, `is_some_and` tells the proof too little.
     match keyword_of::<W>(word) {
         Some(word) => word.takes(parts),
         None => false,

@@ -33,15 +33,10 @@ pub fn read(text: &[u8], rows: &mut [Row]) -> Result<Counts, Placed<TextFault>>
     let mut tally = Tally::new();
     for (count, line) in text.split_inclusive(|byte| *byte == b'\n').enumerate() {
         let place = count as u32 + 1;
-        let Some(body) = line.strip_suffix(b"\n") else {
-            return Err(Placed {
-                place,
-                fault: TextFault::Form,
-            });
-        };
+        let at_place = |fault| Placed { place, fault };
+        let body = line.strip_suffix(b"\n").ok_or(at_place(TextFault::Form))?;
         let room = count < rows.len();
-        let told = spelled::next_row(body, &rows[..count], tally, room);
-        let admitted = told.map_err(|fault| Placed { place, fault })?;
+        let admitted = spelled::next_row(body, &rows[..count], tally, room).map_err(at_place)?;
         rows[count] = admitted.row;
         tally = admitted.tally;
     }
