@@ -25,7 +25,7 @@ use Rattle.reader.specs.declared.keywords.MethodWord.TheVariants.{Abstract, Publ
 use Rattle.reader.specs.declared.keywords.TermWord.{TermWord}
 use Rattle.reader.specs.declared.keywords.TermWord.TheVariants.{Unit as UnitWord, Num, Var, Meth, Get, Lam, Set, Op, Pair, Fst, Snd, App, If, Let, Assert}
 use Rattle.reader.specs.Words.{type_word, type_table, method_word, method_table, term_word, term_table}
-use Rattle.reader.specs.Fields.{formed_by, type_counted, type_formed, method_counted, method_formed, operation_counted, operation_formed, parts_formed, term_formed, numbered_formed, has_form}
+use Rattle.reader.specs.Fields.{formed_from, type_counted, type_formed, method_counted, method_formed, operation_counted, operation_formed, parts_formed, term_formed, numbered_formed, has_form}
 use Rattle.reader.proofs.Spelling.{operation_found}
 
 -- fields that fit a row's slots have a form
@@ -46,7 +46,7 @@ word_fit [] h = h
 word_fit (f ∷ gs) h = h
 
 -- free fields that have a form fit something, if those after each keyword do
-formed_with : {K X : Type 0} (spelled : K → List ℕ) (table : List K) (takes : K → List (List ℕ) → Bool) (Fit : X → List (List ℕ) → Type 0) → ((k : K) (gs : List (List ℕ)) → AllByRecursion Free gs → takes k gs ≡ true → (x : X) × Fit x (spelled k ∷ gs)) → (gs : List (List ℕ)) → AllByRecursion Free gs → formed_by spelled table takes gs ≡ true → (x : X) × Fit x gs
+formed_with : {K X : Type 0} (spelled : K → List ℕ) (table : List K) (takes : K → List (List ℕ) → Bool) (Fit : X → List (List ℕ) → Type 0) → ((k : K) (gs : List (List ℕ)) → AllByRecursion Free gs → takes k gs ≡ true → (x : X) × Fit x (spelled k ∷ gs)) → (gs : List (List ℕ)) → AllByRecursion Free gs → formed_from spelled table takes gs ≡ true → (x : X) × Fit x gs
 formed_with = search (rules, keyword_found)
 
 type_with : (k : TypeWord) (gs : List (List ℕ)) → AllByRecursion Free gs → type_counted k gs ≡ true → (f : TypeForm) × Fits (type_slots f) (type_word k ∷ gs)

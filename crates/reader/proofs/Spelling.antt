@@ -23,7 +23,7 @@ use Rattle.reader.specs.declared.keywords.MethodWord.{MethodWord}
 use Rattle.reader.specs.declared.keywords.TermWord.{TermWord}
 use Rattle.reader.specs.declared.keywords.TermWord.TheVariants.{Unit as UnitWord, Num, Var, Meth, Get, Lam, Set, Op, Pair, Fst, Snd, App, If, Let, Assert}
 use Rattle.reader.specs.Words.{type_word, type_table, method_word, method_table, term_word, term_table}
-use Rattle.reader.specs.Fields.{spelled_by, type_parts, type_of, method_parts, method_of, operation_parts, operation_of, term_parts, term_of, row_parts, row_numbered, section_parts, row_of}
+use Rattle.reader.specs.Fields.{spelled_from, type_parts, type_of, method_parts, method_of, operation_parts, operation_of, term_parts, term_of, row_parts, row_numbered, section_parts, row_of}
 
 pub operation_found : (o : Operation) → keyword_of operation_word operation_table (operation_word o) ≡ Some o
 operation_found = search rules
@@ -49,7 +49,7 @@ word_same : (bs : List ℕ) (z : ℤ) → word_of bs ≡ Some z → signed_decim
 word_same bs z e = (word_exact bs z e).1
 
 -- what is spelled is written by the fields, if what each keyword and its parts spell is
-spelled_exact : {K X : Type 0} (spelled : K → List ℕ) (table : List K) (made : K → List (List ℕ) → Option X) (Written : X → List (List ℕ) → Type 0) → ((k : K) (fs : List (List ℕ)) (x : X) → made k fs ≡ Some x → Written x (spelled k ∷ fs)) → (fs : List (List ℕ)) (x : X) → spelled_by spelled table made fs ≡ Some x → Written x fs
+spelled_exact : {K X : Type 0} (spelled : K → List ℕ) (table : List K) (made : K → List (List ℕ) → Option X) (Written : X → List (List ℕ) → Type 0) → ((k : K) (fs : List (List ℕ)) (x : X) → made k fs ≡ Some x → Written x (spelled k ∷ fs)) → (fs : List (List ℕ)) (x : X) → spelled_from spelled table made fs ≡ Some x → Written x fs
 spelled_exact = search (rules, keyword_found)
 
 -- the form that the fields spell is written by them

@@ -46,9 +46,9 @@ spelled_after made None fs = None
 spelled_after made (Some k) fs = made k fs
 
 -- what fields spell, the first of them a keyword and the others its parts
-abbrev pub spelled_by : {K X : Type 0} → (K → List ℕ) → List K → (K → List (List ℕ) → Option X) → List (List ℕ) → Option X
-spelled_by spelled table made [] = None
-spelled_by spelled table made (w ∷ fs) = spelled_after made (keyword_of spelled table w) fs
+abbrev pub spelled_from : {K X : Type 0} → (K → List ℕ) → List K → (K → List (List ℕ) → Option X) → List (List ℕ) → Option X
+spelled_from spelled table made [] = None
+spelled_from spelled table made (w ∷ fs) = spelled_after made (keyword_of spelled table w) fs
 
 -- whether a keyword takes the fields after it as its parts
 abbrev pub formed_after : {K : Type 0} → (K → List (List ℕ) → Bool) → Option K → List (List ℕ) → Bool
@@ -56,9 +56,9 @@ formed_after takes None fs = false
 formed_after takes (Some k) fs = takes k fs
 
 -- whether fields have a form, the first of them a keyword and the others its parts
-abbrev pub formed_by : {K : Type 0} → (K → List ℕ) → List K → (K → List (List ℕ) → Bool) → List (List ℕ) → Bool
-formed_by spelled table takes [] = false
-formed_by spelled table takes (w ∷ fs) = formed_after takes (keyword_of spelled table w) fs
+abbrev pub formed_from : {K : Type 0} → (K → List ℕ) → List K → (K → List (List ℕ) → Bool) → List (List ℕ) → Bool
+formed_from spelled table takes [] = false
+formed_from spelled table takes (w ∷ fs) = formed_after takes (keyword_of spelled table w) fs
 
 -- a type by the fields after its number
 abbrev pub type_parts : TypeWord → List (List ℕ) → Option TypeForm
@@ -68,7 +68,7 @@ type_parts PairTypeWord fs = of_two PairType (two_numbers fs)
 type_parts Fun fs = of_two FunType (two_numbers fs)
 
 abbrev pub type_of : List (List ℕ) → Option TypeForm
-type_of = spelled_by type_word type_table type_parts
+type_of = spelled_from type_word type_table type_parts
 
 -- a method by the fields after its number
 abbrev pub method_parts : MethodWord → List (List ℕ) → Option MethodForm
@@ -77,14 +77,14 @@ method_parts Public fs = of_two PublicMethod (two_numbers fs)
 method_parts Private fs = of_two PrivateMethod (two_numbers fs)
 
 abbrev pub method_of : List (List ℕ) → Option MethodForm
-method_of = spelled_by method_word method_table method_parts
+method_of = spelled_from method_word method_table method_parts
 
 -- an operation by the fields after `op`
 abbrev pub operation_parts : Operation → List (List ℕ) → Option TermForm
 operation_parts o fs = of_two (OpTerm o) (two_numbers fs)
 
 abbrev pub operation_of : List (List ℕ) → Option TermForm
-operation_of = spelled_by operation_word operation_table operation_parts
+operation_of = spelled_from operation_word operation_table operation_parts
 
 -- a term by the fields after its number
 abbrev pub term_parts : TermWord → List (List ℕ) → Option TermForm
@@ -105,7 +105,7 @@ term_parts Let fs = of_three LetTerm (three_numbers fs)
 term_parts Assert fs = option_map AssertTerm (one_number fs)
 
 abbrev pub term_of : List (List ℕ) → Option TermForm
-term_of = spelled_by term_word term_table term_parts
+term_of = spelled_from term_word term_table term_parts
 
 -- a row by the fields after its number
 abbrev pub row_parts : Section → ℕ → List (List ℕ) → Option Row
@@ -126,7 +126,7 @@ section_parts s (n ∷ fs) = row_numbered s (number_of n) fs
 
 -- the row that the fields of a line spell
 abbrev pub row_of : List (List ℕ) → Option Row
-row_of = spelled_by section_word section_table section_parts
+row_of = spelled_from section_word section_table section_parts
 
 -- whether a keyword has as many parts as there are fields after it
 abbrev pub type_counted : TypeWord → List (List ℕ) → Bool
@@ -145,7 +145,7 @@ operation_counted o fs = length fs == 2
 
 -- whether the fields after `op` have the form of an operation
 abbrev pub operation_formed : List (List ℕ) → Bool
-operation_formed = formed_by operation_word operation_table operation_counted
+operation_formed = formed_from operation_word operation_table operation_counted
 
 -- whether a term's word has the fields after it as its parts
 abbrev pub parts_formed : TermWord → List (List ℕ) → Bool
@@ -167,13 +167,13 @@ parts_formed Assert fs = length fs == 1
 
 -- whether the fields after a row's number have the form of a type, a method or a term
 abbrev pub type_formed : List (List ℕ) → Bool
-type_formed = formed_by type_word type_table type_counted
+type_formed = formed_from type_word type_table type_counted
 
 abbrev pub method_formed : List (List ℕ) → Bool
-method_formed = formed_by method_word method_table method_counted
+method_formed = formed_from method_word method_table method_counted
 
 abbrev pub term_formed : List (List ℕ) → Bool
-term_formed = formed_by term_word term_table parts_formed
+term_formed = formed_from term_word term_table parts_formed
 
 -- whether the fields after a row's number have the form of a row of the section
 abbrev pub section_formed : Section → List (List ℕ) → Bool
@@ -190,4 +190,4 @@ numbered_formed s (n ∷ fs) = section_formed s fs
 
 -- whether the fields of a line have a form
 abbrev pub has_form : List (List ℕ) → Bool
-has_form = formed_by section_word section_table numbered_formed
+has_form = formed_from section_word section_table numbered_formed

@@ -1,5 +1,5 @@
 //! The row that the fields of a line spell.
-ghost use Rattle.reader.specs.Fields.{at_end, formed_by, method_counted, method_parts, numbered_formed, operation_counted, operation_parts, parts_formed, row_parts, section_formed, section_parts, spelled_by, term_parts, type_counted, type_parts};
+ghost use Rattle.reader.specs.Fields.{at_end, formed_from, method_counted, method_parts, numbered_formed, operation_counted, operation_parts, parts_formed, row_parts, section_formed, section_parts, spelled_from, term_parts, type_counted, type_parts};
 ghost use Rattle.text.specs.Remaining.{remaining};
 ghost use Rattle.std.specs.Prelude.{◌≡◌, ℕ, Bool, List, Option};
 
@@ -28,7 +28,7 @@ pub(crate) trait FormWord: Keyword {
 
 // The form that fields spell, the first of them a keyword.
 pub(crate) fn form_of<W: FormWord>(fields: Fields) -> Option<W::Form>
-    ensures value { result ≡ spelled_by W.Keyword.spelled W.Keyword.table W.made (remaining fields.entry) }
+    ensures value { result ≡ spelled_from W.Keyword.spelled W.Keyword.table W.made (remaining fields.entry) }
 {
     let (word, parts) = fields.split()?;
     keyword_of::<W>(word)?.form(parts)
@@ -36,7 +36,7 @@ pub(crate) fn form_of<W: FormWord>(fields: Fields) -> Option<W::Form>
 
 // Whether fields have a form, the first of them a keyword, whatever stands where numbers belong.
 pub(crate) fn has_form<W: FormWord>(fields: Fields) -> bool
-    ensures value { result ≡ formed_by W.Keyword.spelled W.Keyword.table W.fitting (remaining fields.entry) }
+    ensures value { result ≡ formed_from W.Keyword.spelled W.Keyword.table W.fitting (remaining fields.entry) }
 {
     let Some((word, parts)) = fields.split() else {
         return false;
