@@ -3,3 +3,4 @@ pub mod Forming
 pub mod Lines
 pub mod Progress
 pub mod Unique
+pub mod Cutting

@@ -1,5 +1,5 @@
 -- What the fields of a line tell of the line. Assumes nothing.
-use Rattle.std.proofs.Common.{◌≡◌, ℕ, ◌^◌, ◌<◌, Bool, true, false, ◌⊎◌, List, [], ◌∷◌, ◌++◌, map, Some, None, sym, refl, ap, ◌∙◌, subst, inl, inr, ⊎_elim, arith}
+use Rattle.std.proofs.Common.{◌≡◌, ℕ, ◌^◌, ◌<◌, Bool, true, false, ◌⊎◌, List, [], ◌∷◌, ◌++◌, map, Some, None, sym, refl, ap, ◌∙◌, subst, inl, inr, ⊎_elim, arith, rules}
 use lib.Signed.{mag}
 use Rattle.std.specs.List.{AllByRecursion}
 use Rattle.std.proofs.lemmas.List.{append_cancel_right}
@@ -8,16 +8,11 @@ use Rattle.std.proofs.lemmas.Bool.{both_ways}
 use Rattle.faults.specs.declared.TextFault.{TextFault}
 use Rattle.faults.specs.declared.TextFault.TheVariants.{Form, Number, Order, Reference, Limit, Repeat}
 use Rattle.faults.specs.Numbers.{text_number}
-use Rattle.arithmetic.specs.declared.Operation.TheVariants.{Add, Sub, Mul, Less, Equal}
 use Rattle.text.specs.Slots.{Slot, literal, number, word, written, InRange, Lacks, Free, Fits, commas}
 use Rattle.text.specs.Reading.{cut}
-use Rattle.text.proofs.Laws.{none_some, commas_cut, cut_free}
+use Rattle.text.proofs.Laws.{commas_cut, cut_free}
 use Rattle.text.proofs.Forms.{words_free, written_all_free, fits_free, written_fits, commas_lack, cut_fields}
-use Rattle.rows.specs.declared.forms.TypeForm.TheVariants.{Unit as UnitType, Int as IntType, Pair as PairType, Fun as FunType}
-use Rattle.rows.specs.declared.forms.MethodForm.TheVariants.{Abstract as AbstractMethod, Public as PublicMethod, Private as PrivateMethod}
-use Rattle.rows.specs.declared.forms.TermForm.TheVariants.{Unit as UnitTerm, Num as NumTerm, Var as VarTerm, Meth as MethTerm, Get as GetTerm, Lam as LamTerm, Set as SetTerm, Op as OpTerm, Pair as PairTerm, Fst as FstTerm, Snd as SndTerm, App as AppTerm, If as IfTerm, Let as LetTerm, Assert as AssertTerm}
 use Rattle.rows.specs.declared.forms.Row.{Row}
-use Rattle.rows.specs.declared.forms.Row.TheVariants.{«Type» as TypeRow, Variable as VariableRow, Method as MethodRow, Global as GlobalRow, Term as TermRow}
 use Rattle.rows.specs.Printing.{slots, row_line}
 use Rattle.rows.specs.Faults.{NumbersInRange, RowFault, Least, NoneOf}
 use Rattle.reader.specs.Fields.{row_of, has_form}
@@ -27,49 +22,21 @@ use Rattle.reader.proofs.Forming.{row_fits, row_form}
 
 -- the words of a row's line are free
 slots_free : (row : Row) → words_free (slots row) ≡ true
-slots_free (TypeRow n UnitType) = refl
-slots_free (TypeRow n IntType) = refl
-slots_free (TypeRow n (PairType a b)) = refl
-slots_free (TypeRow n (FunType a b)) = refl
-slots_free (VariableRow n t) = refl
-slots_free (MethodRow n (AbstractMethod t)) = refl
-slots_free (MethodRow n (PublicMethod t e)) = refl
-slots_free (MethodRow n (PrivateMethod t e)) = refl
-slots_free (GlobalRow n t e) = refl
-slots_free (TermRow n UnitTerm) = refl
-slots_free (TermRow n (NumTerm i)) = refl
-slots_free (TermRow n (VarTerm a)) = refl
-slots_free (TermRow n (MethTerm a)) = refl
-slots_free (TermRow n (GetTerm a)) = refl
-slots_free (TermRow n (FstTerm a)) = refl
-slots_free (TermRow n (SndTerm a)) = refl
-slots_free (TermRow n (AssertTerm a)) = refl
-slots_free (TermRow n (LamTerm a b)) = refl
-slots_free (TermRow n (SetTerm a b)) = refl
-slots_free (TermRow n (PairTerm a b)) = refl
-slots_free (TermRow n (AppTerm a b)) = refl
-slots_free (TermRow n (IfTerm a b c)) = refl
-slots_free (TermRow n (LetTerm a b c)) = refl
-slots_free (TermRow n (OpTerm Add a b)) = refl
-slots_free (TermRow n (OpTerm Sub a b)) = refl
-slots_free (TermRow n (OpTerm Mul a b)) = refl
-slots_free (TermRow n (OpTerm Less a b)) = refl
-slots_free (TermRow n (OpTerm Equal a b)) = refl
+slots_free = search rules
 
 -- a row has fields
 fields_some : (row : Row) → map written (slots row) ≡ [] → ⊥
-fields_some (TypeRow n f) same = let z : ◌≡◌ {A = ℕ} 0 1 = cc in omega arith
-fields_some (VariableRow n t) same = let z : ◌≡◌ {A = ℕ} 0 1 = cc in omega arith
-fields_some (MethodRow n f) same = let z : ◌≡◌ {A = ℕ} 0 1 = cc in omega arith
-fields_some (GlobalRow n t e) same = let z : ◌≡◌ {A = ℕ} 0 1 = cc in omega arith
-fields_some (TermRow n f) same = let z : ◌≡◌ {A = ℕ} 0 1 = cc in omega arith
+fields_some = search rules
 
 fits_some : (row : Row) (fs : List (List ℕ)) → Fits (slots row) fs → fs ≡ [] → ⊥
-fits_some (TypeRow n f) fs h same = subst (Fits (slots (TypeRow n f))) same h
-fits_some (VariableRow n t) fs h same = subst (Fits (slots (VariableRow n t))) same h
-fits_some (MethodRow n f) fs h same = subst (Fits (slots (MethodRow n f))) same h
-fits_some (GlobalRow n t e) fs h same = subst (Fits (slots (GlobalRow n t e))) same h
-fits_some (TermRow n f) fs h same = subst (Fits (slots (TermRow n f))) same h
+fits_some = search rules
+
+-- no fault has a smaller number than that of a line without a form, and only that one has a smaller one than that of a number
+none_below_form : (fault : TextFault) → text_number fault < 10 → ⊥
+none_below_form = search (rules, arith)
+
+form_below_number : (fault : TextFault) → text_number fault < 11 → fault ≡ Form
+form_below_number = search (rules, arith)
 
 -- the fields of a line that has no line feed but its last byte
 module _ (body : List ℕ) (lacks : Lacks 10 body) where
@@ -85,7 +52,7 @@ module _ (body : List ℕ) (lacks : Lacks 10 body) where
       record { in_range = x.0; printing = ap (λ b. b ++ (10 ∷ [])) (sym (ap commas x.1 ∙ commas_cut body)) }
 
   pub spells_none : row_of (cut body) ≡ None → (row : Row) → Spells (body ++ (10 ∷ [])) row → ⊥
-  spells_none e row h = none_some row (sym e ∙ row_fields row h)
+  spells_none e row h = let f = row_fields row h in cc
 
   pub spells_same : (row other : Row) → row_of (cut body) ≡ Some row → Spells (body ++ (10 ∷ [])) other → other ≡ row
   spells_same row other e h = let f = row_fields other h in cc
@@ -110,41 +77,20 @@ module _ (body : List ℕ) (lacks : Lacks 10 body) where
     of_row Number f = absurd (f row spelled)
     of_row Order f = subst (λ r. RowFault room before r Order) (spells_same row f.0 found f.1) f.2
     of_row Reference f = subst (λ r. RowFault room before r Reference) (spells_same row f.0 found f.1) f.2
-    of_row Limit f = ⊎_elim (λ g. ⊎_elim inl (λ e. let z : ◌≡◌ {A = ℕ} 0 1 = cc in absurd (omega arith)) (subst (λ r. RowFault true before r Limit) (spells_same row g.0 found g.1) g.2)) inr f
+    of_row Limit f = ⊎_elim (λ g. ⊎_elim inl (λ e. cc) (subst (λ r. RowFault true before r Limit) (spells_same row g.0 found g.1) g.2)) inr f
     of_row Repeat f = subst (λ r. RowFault room before r Repeat) (spells_same row f.0 found f.1) f.2
 
     to_line : (fault : TextFault) → RowFault room before row fault → LineFault room before (body ++ (10 ∷ [])) fault
-    to_line Form f = absurd f
-    to_line Number f = absurd (f spelled.in_range)
-    to_line Order f = (row, spelled, f)
-    to_line Reference f = (row, spelled, f)
-    to_line Limit f = ⊎_elim (λ g. inl (row, spelled, inl g)) inr f
-    to_line Repeat f = (row, spelled, f)
+    to_line = search (rules, spelled)
 
     pub line_least : (fault : TextFault) → Least (RowFault room before row) fault → Least (LineFault room before (body ++ (10 ∷ []))) fault
     line_least fault l = record { here = to_line fault l.here; none_smaller = λ other lt f. l.none_smaller other lt (of_row other f) }
 
   pub form_least : (room : Bool) (before : List Row) → has_form (cut body) ≡ false → Least (LineFault room before (body ++ (10 ∷ []))) Form
-  form_least room before e = record { here = form_none e; none_smaller = smaller }
-    where
-      smaller : (other : TextFault) → text_number other < 10 → LineFault room before (body ++ (10 ∷ [])) other → ⊥
-      smaller Form lt f = absurd (omega arith)
-      smaller Number lt f = absurd (omega arith)
-      smaller Order lt f = absurd (omega arith)
-      smaller Reference lt f = absurd (omega arith)
-      smaller Limit lt f = absurd (omega arith)
-      smaller Repeat lt f = absurd (omega arith)
+  form_least room before e = record { here = form_none e; none_smaller = λ other lt f. none_below_form other lt }
 
   pub number_least : (room : Bool) (before : List Row) → has_form (cut body) ≡ true → row_of (cut body) ≡ None → Least (LineFault room before (body ++ (10 ∷ []))) Number
-  number_least room before e n = record { here = spells_none n; none_smaller = smaller }
-    where
-      smaller : (other : TextFault) → text_number other < 11 → LineFault room before (body ++ (10 ∷ [])) other → ⊥
-      smaller Form lt f = f (form_holds e)
-      smaller Number lt f = absurd (omega arith)
-      smaller Order lt f = absurd (omega arith)
-      smaller Reference lt f = absurd (omega arith)
-      smaller Limit lt f = absurd (omega arith)
-      smaller Repeat lt f = absurd (omega arith)
+  number_least room before e n = record { here = spells_none n; none_smaller = λ other lt f. subst (LineFault room before (body ++ (10 ∷ []))) (form_below_number other lt) f (form_holds e) }
 
   pub spelled_least : (room : Bool) (before : List Row) (fault : TextFault) → ((fault ≡ Form) × (has_form (cut body) ≡ false)) ⊎ ((fault ≡ Number) × (has_form (cut body) ≡ true) × (row_of (cut body) ≡ None)) → Least (LineFault room before (body ++ (10 ∷ []))) fault
   spelled_least room before fault =
@@ -153,19 +99,11 @@ module _ (body : List ℕ) (lacks : Lacks 10 body) where
 
 -- a printed line ends in its only line feed, so bytes without one have no form
 pub unended_least : (room : Bool) (before : List Row) (line : List ℕ) → Lacks 10 line → Least (LineFault room before line) Form
-unended_least room before line lacks = record { here = λ f. no_feed (commas f.1) (subst (Lacks 10) f.3 lacks); none_smaller = smaller }
+unended_least room before line lacks = record { here = λ f. no_feed (commas f.1) (subst (Lacks 10) f.3 lacks); none_smaller = λ other lt f. none_below_form other lt }
   where
     no_feed : (bs : List ℕ) → Lacks 10 (bs ++ (10 ∷ [])) → ⊥
     no_feed [] h = h.0 refl
     no_feed (b ∷ bs) h = no_feed bs h.1
-
-    smaller : (other : TextFault) → text_number other < 10 → LineFault room before line other → ⊥
-    smaller Form lt f = absurd (omega arith)
-    smaller Number lt f = absurd (omega arith)
-    smaller Order lt f = absurd (omega arith)
-    smaller Reference lt f = absurd (omega arith)
-    smaller Limit lt f = absurd (omega arith)
-    smaller Repeat lt f = absurd (omega arith)
 
 -- whether numbers are in range can be told
 in_range_told : (ss : List Slot) → ((AllByRecursion InRange ss → ⊥) → ⊥) → AllByRecursion InRange ss

@@ -1,13 +1,13 @@
 -- A text has one answer. Assumes nothing.
-use Rattle.std.proofs.Common.{◌≡◌, ℕ, ◌+◌, ◌<◌, ◌≤◌, true, ltb, List, [], ◌∷◌, ◌++◌, length, take, drop, Some, None, Ok, Err, Option, Result, sym, refl, ap, ◌∙◌, subst, ⊎_elim, append_assoc, append-nil, arith, length-append, lt-ltb}
-use Rattle.std.proofs.lemmas.List.{take-append-le, take_all, get_or_at}
+use Rattle.std.proofs.lemmas.Grind.{common_steps}
+use Rattle.std.proofs.Math.Seq.{take-append_seam}
+use Rattle.std.proofs.Common.{◌≡◌, ℕ, ◌+◌, ◌≤◌, true, ltb, List, [], ◌∷◌, ◌++◌, length, drop, Some, None, Ok, Err, Option, Result, sym, refl, ap, ◌∙◌, subst, ⊎_elim, append_assoc, append-nil, arith, length-append, lt-ltb, rules}
+use Rattle.std.proofs.lemmas.List.{get_or_at}
 use Rattle.faults.specs.declared.Placed.{Placed}
 use Rattle.faults.specs.declared.TextFault.{TextFault}
-use Rattle.faults.specs.declared.TextFault.TheVariants.{Form, Number, Order, Reference, Limit, Repeat}
 use Rattle.faults.specs.Numbers.{text_number}
 use Rattle.faults.proofs.Once.{least_once}
 use Rattle.text.specs.Slots.{Lacks}
-use Rattle.text.proofs.Laws.{none_some}
 use Rattle.rows.specs.declared.forms.Row.{Row}
 use Rattle.rows.specs.declared.forms.Section.TheVariants.{Types, Variables, Methods, Globals, Terms}
 use Rattle.rows.specs.declared.tally.Counts.{Counts}
@@ -19,42 +19,7 @@ use Rattle.reader.proofs.Lines.{line_body, spells_one, no_line_fault}
 
 -- a fault is told by its number
 same_fault : (f g : TextFault) → text_number f ≡ text_number g → f ≡ g
-same_fault Form Form e = refl
-same_fault Form Number e = absurd (omega arith)
-same_fault Form Order e = absurd (omega arith)
-same_fault Form Reference e = absurd (omega arith)
-same_fault Form Limit e = absurd (omega arith)
-same_fault Form Repeat e = absurd (omega arith)
-same_fault Number Form e = absurd (omega arith)
-same_fault Number Number e = refl
-same_fault Number Order e = absurd (omega arith)
-same_fault Number Reference e = absurd (omega arith)
-same_fault Number Limit e = absurd (omega arith)
-same_fault Number Repeat e = absurd (omega arith)
-same_fault Order Form e = absurd (omega arith)
-same_fault Order Number e = absurd (omega arith)
-same_fault Order Order e = refl
-same_fault Order Reference e = absurd (omega arith)
-same_fault Order Limit e = absurd (omega arith)
-same_fault Order Repeat e = absurd (omega arith)
-same_fault Reference Form e = absurd (omega arith)
-same_fault Reference Number e = absurd (omega arith)
-same_fault Reference Order e = absurd (omega arith)
-same_fault Reference Reference e = refl
-same_fault Reference Limit e = absurd (omega arith)
-same_fault Reference Repeat e = absurd (omega arith)
-same_fault Limit Form e = absurd (omega arith)
-same_fault Limit Number e = absurd (omega arith)
-same_fault Limit Order e = absurd (omega arith)
-same_fault Limit Reference e = absurd (omega arith)
-same_fault Limit Limit e = refl
-same_fault Limit Repeat e = absurd (omega arith)
-same_fault Repeat Form e = absurd (omega arith)
-same_fault Repeat Number e = absurd (omega arith)
-same_fault Repeat Order e = absurd (omega arith)
-same_fault Repeat Reference e = absurd (omega arith)
-same_fault Repeat Limit e = absurd (omega arith)
-same_fault Repeat Repeat e = refl
+same_fault = search rules
 
 -- bytes up to the first line feed
 pub first_feed : (xs ys t u : List ℕ) → Lacks 10 xs → Lacks 10 ys → xs ++ (10 ∷ t) ≡ ys ++ (10 ∷ u) → (xs ≡ ys) × (t ≡ u)
@@ -77,33 +42,13 @@ feed_then body more = append_assoc body (10 ∷ []) more
 
 -- the first line of a text that begins with a printed line is that line
 first_printed : (text line later body more : List ℕ) → Lacks 10 body → text ≡ body ++ (10 ∷ more) → FirstLine text line later → line ≡ body ++ (10 ∷ [])
-first_printed text line later body more lacks is f =
-    ⊎_elim
-    (λ p.
-    let same : p.0 ++ (10 ∷ later) ≡ body ++ (10 ∷ more) = sym (feed_then p.0 later) ∙ ap (λ l. l ++ later) (sym p.1) ∙ sym f.parts ∙ is in
-    p.1 ∙ ap (λ b. b ++ (10 ∷ [])) (first_feed p.0 body later more p.2 lacks same).0)
-    (λ p.
-    let whole : line ≡ body ++ (10 ∷ more) = sym (append-nil line) ∙ ap (λ l. line ++ l) (sym p.2) ∙ sym f.parts ∙ is in
-    absurd (has_feed body more (subst (Lacks 10) whole p.0)))
-    f.ends
+first_printed = grind (arith, common_steps, first_feed, has_feed)
 
 first_same : (text line later other rest : List ℕ) → FirstLine text line later → FirstLine text other rest → line ≡ other
-first_same text line later other rest f g =
-    ⊎_elim
-    (λ p. first_printed text line later p.0 rest p.2 (g.parts ∙ ap (λ l. l ++ rest) p.1 ∙ feed_then p.0 rest) f ∙ sym p.1)
-    (λ q. ⊎_elim
-    (λ p.
-    let whole : other ≡ p.0 ++ (10 ∷ later) = sym (append-nil other) ∙ ap (λ l. other ++ l) (sym q.2) ∙ sym g.parts ∙ f.parts ∙ ap (λ l. l ++ later) p.1 ∙ feed_then p.0 later in
-    absurd (has_feed p.0 later (subst (Lacks 10) whole q.0)))
-    (λ p. sym (append-nil line) ∙ ap (λ l. line ++ l) (sym p.2) ∙ sym f.parts ∙ g.parts ∙ ap (λ l. other ++ l) q.2 ∙ append-nil other)
-    f.ends)
-    g.ends
+first_same = grind (arith, common_steps, first_feed, has_feed)
 
 first_some : (line later : List ℕ) → FirstLine [] line later → ⊥
-first_some line later f =
-    ⊎_elim (λ p. has_feed p.0 later (subst (Lacks 10) (f.parts ∙ ap (λ l. l ++ later) p.1 ∙ feed_then p.0 later) tt))
-    (λ p. let none : length line + length later ≡ 0 = sym (length-append line later) ∙ ap length (sym f.parts) in let some = p.1 in omega arith)
-    f.ends
+first_some line later f = let none : 0 ≡ length (line ++ later) = ap length f.parts in grind (arith, common_steps, length-append)
 
 -- each of the rows has no fault after the rows b and those of them before it
 abbrev EachGood : List Row → List Row → Type 0
@@ -115,10 +60,7 @@ good_from b [] h = tt
 good_from b (r ∷ rs) h = (here, good_from (b ++ (r ∷ [])) rs (subst Faultless (sym (append_assoc b (r ∷ []) rs)) h))
   where
     here : NoneOf (RowFault true b r)
-    here =
-        let inside : length b < length (b ++ (r ∷ rs)) = omega (arith, length-append b (r ∷ rs)) in
-        let before : take (length b) (b ++ (r ∷ rs)) ≡ b = take-append-le (length b) b (r ∷ rs) (omega arith) ∙ take_all (length b) b (omega arith) in
-        subst (λ x. NoneOf (RowFault true x r)) before (h (length b) r inside (get_or_at b r rs r (length b) refl))
+    here = rw (take-append_seam b (r ∷ rs)) at (h (length b) r (omega (arith, length-append b (r ∷ rs))) (get_or_at b r rs r (length b) refl))
 
 -- where reading stops after the rows: at the end of the text, or at a line with a fault
 abbrev Stops : ℕ → List Row → List ℕ → Option TextFault → Type 0
@@ -133,7 +75,7 @@ stops_room room rows rest (Some f) h = h.4
 passes : (room : ℕ) (b : List Row) (r : Row) (rs : List Row) (t : List ℕ) (o : Option TextFault) → NoneOf (RowFault true b r) → length (b ++ (r ∷ rs)) ≤ room → Stops room b (row_line r ++ t) o → ⊥
 passes room b r rs t None good fits h =
     let body = line_body {before = b} r good in
-    has_feed body.0 t (subst (Lacks 10) (sym (sym (feed_then body.0 t) ∙ ap (λ l. l ++ t) (sym body.1) ∙ h.0)) tt)
+    let none = h.0 in let is = body.1 in grind (arith, common_steps)
 passes room b r rs t (Some f) good fits h =
     let body = line_body {before = b} r good in
     let line = first_printed (row_line r ++ t) h.0 h.1 body.0 t body.2 (ap (λ l. l ++ t) body.1 ∙ feed_then body.0 t) h.2 ∙ sym body.1 in
@@ -176,7 +118,7 @@ counts_same rows c d h k = λ i. record {
 }
 
 placed_same : (p q : Placed TextFault) → p.place ≡ q.place → p.fault ≡ q.fault → p ≡ q
-placed_same p q e f = λ i. record { place = e i; fault = f i }
+placed_same = search rules
 
 granted_stops : (room : ℕ) (text : List ℕ) (rows : List Row) → Granted room text rows → Stops room ([] ++ rows) [] None × EachGood [] rows × (row_lines rows ++ [] ≡ text)
 granted_stops room text rows g = ((refl, g.fits), good_from [] rows g.faultless, append-nil (row_lines rows) ∙ sym g.printing)
@@ -197,7 +139,7 @@ one_answer room text (Ok c) (Err p) rs ss h k =
     (λ r.
     let y = refused_stops room text ss p.fault r.0 in
     let same = one_stop room [] rs ss [] r.0.rest None (Some p.fault) x.1 y.1 (x.2 ∙ sym y.2) x.0 y.0 in
-    absurd (none_some p.fault same.0))
+    let e = same.0 in cc)
     (λ r. let short = h.0.short in absurd (omega (arith, r.0)))
     k
 one_answer room text (Err p) (Ok d) rs ss h k =
@@ -206,7 +148,7 @@ one_answer room text (Err p) (Ok d) rs ss h k =
     (λ r.
     let x = refused_stops room text rs p.fault r.0 in
     let same = one_stop room [] rs ss r.0.rest [] (Some p.fault) None x.1 y.1 (x.2 ∙ sym y.2) x.0 y.0 in
-    absurd (none_some p.fault (sym same.0)))
+    let e = same.0 in cc)
     (λ r. let short = k.0.short in absurd (omega (arith, r.0)))
     h
 one_answer room text (Err p) (Err q) rs ss h k =
@@ -224,8 +166,11 @@ one_answer room text (Err p) (Err q) rs ss h k =
     (λ r. ⊎_elim (λ s. let short = s.0.short in absurd (omega (arith, r.0))) (λ s. (ap Err (r.1 ∙ sym s.1), r.2 ∙ sym s.2)) k)
     h
 
--- what is told of the answer and the rows holds of every answer that a text has
-pub told_of_every : (room : ℕ) (text : List ℕ) (a : Result Counts (Placed TextFault)) (rs old rows : List Row) → Reads room text a rs → rows ≡ rs ++ drop (length rs) old → (answer : Result Counts (Placed TextFault)) (filled : List Row) → Reads room text answer filled → (answer ≡ a) × (rows ≡ filled ++ drop (length filled) old)
-told_of_every room text a rs old rows h is answer filled k =
-    let same = one_answer room text answer a filled rs k h in
-    (same.0, is ∙ ap (λ l. l ++ drop (length l) old) (sym same.1))
+-- an answer that is told of a text with the rows that are filled, and that no other answer is told
+pub only_answer : (room : ℕ) (text : List ℕ) (a : Result Counts (Placed TextFault)) (rs old rows : List Row) → Reads room text a rs → rows ≡ rs ++ drop (length rs) old → ((filled : List Row) × Reads room text a filled × (rows ≡ filled ++ drop (length filled) old)) × ((answer : Result Counts (Placed TextFault)) (filled : List Row) → Reads room text answer filled → (answer ≡ a) × (rows ≡ filled ++ drop (length filled) old))
+only_answer room text a rs old rows h is = ((rs, h, is), every)
+  where
+    every : (answer : Result Counts (Placed TextFault)) (filled : List Row) → Reads room text answer filled → (answer ≡ a) × (rows ≡ filled ++ drop (length filled) old)
+    every answer filled k =
+        let same = one_answer room text answer a filled rs k h in
+        (same.0, is ∙ ap (λ l. l ++ drop (length l) old) (sym same.1))

@@ -10,7 +10,6 @@ ghost use Rattle.std.specs.Prelude.{◌≡◌, List, ◌++◌, length, drop, Res
 
 use faults::{Placed, TextFault};
 use rows::{Counts, Row, Tally};
-use text::first_line;
 
 mod forms;
 mod keywords;
@@ -32,26 +31,14 @@ pub fn read(text: &[u8], rows: &mut [Row]) -> Result<Counts, Placed<TextFault>>
         });
     }
     let mut tally = Tally::new();
-    let mut count: usize = 0;
-    let mut rest = text;
-    while !rest.is_empty() {
+    for (count, line) in text.split_inclusive(|byte| *byte == b'\n').enumerate() {
         let place = count as u32 + 1;
-        let Some((line, after)) = first_line(rest) else {
-            return Err(Placed {
-                place,
-                fault: TextFault::Form,
-            });
-        };
+        let at_place = |fault| Placed { place, fault };
+        let body = line.strip_suffix(b"\n").ok_or(at_place(TextFault::Form))?;
         let room = count < rows.len();
-        match spelled::next_row(line, &rows[0..count], tally, room) {
-            Ok(admitted) => {
-                rows[count] = admitted.row;
-                tally = admitted.tally;
-            }
-            Err(fault) => return Err(Placed { place, fault }),
-        }
-        count += 1;
-        rest = after;
+        let admitted = spelled::next_row(body, &rows[..count], tally, room).map_err(at_place)?;
+        rows[count] = admitted.row;
+        tally = admitted.tally;
     }
     Ok(tally.counts())
 }

@@ -1,73 +1,71 @@
-use Rattle.std.proofs.Common.{◌≡◌, ℕ, ◌-◌, ◌<◌, ltb, List, [], ◌∷◌, ◌++◌, length, take, sym, refl, ap, ◌∙◌, subst, inl, inr, append_assoc, append-nil, arith, true-eqb, false-eqb}
-use Rattle.rows.specs.Faults.{Least, NoneOf, RowFault}
-use Rattle.rows.specs.Tallies.{Tallied}
-use Rattle.reader.specs.Text.{FirstLine, LineFault, Reads}
-use Rattle.text.specs.Slots.{Lacks}
+use Rattle.std.proofs.Common.{◌≡◌, ◌+◌, length, take, Ok, None, Some, sym, subst, arith, rules, of_calls}
+use Rattle.std.proofs.lemmas.Result.{err_from_is_err_and}
+use Rattle.faults.specs.declared.Placed.{Placed}
+use Rattle.faults.specs.declared.TextFault.{TextFault}
+use Rattle.faults.specs.declared.TextFault.TheVariants.{Form}
+use Rattle.reader.specs.Text.{Reads}
+use Rattle.reader.proofs.Cutting.{ended_line, unended_line}
 use Rattle.reader.proofs.Lines.{unended_least}
-use Rattle.reader.proofs.Progress.{inside, shorter, one_more, all_rows, refused, granted}
-use Rattle.reader.proofs.Unique.{told_of_every}
+use Rattle.reader.proofs.Progress.{Admits, Refuses, mapped_ok, mapped_err, inside, one_more, all_rows, refused, granted}
+use Rattle.reader.proofs.Unique.{only_answer}
 use Rattle.reader.proofs.read.Goals as goal
 
--- a part from the start, as the code takes it
-from_start : {X : Type 0} (n : ℕ) (xs : List X) → take (n - 0) xs ≡ take n xs
-from_start n xs = let e : n - 0 ≡ n = omega arith in ap (λ k. take k xs) e
+pub returns-in_err-body : goal.returns-in_err-body
+returns-in_err-body c =
+    let s = c.in-Some.ensures.steps in
+    let h = rw (← s.1) at c.loop-count.invariant in
+    let none : c.strip_suffix.result ≡ None = search rules in
+    let rest = unended_line c.in-Some.line.now s.0 (λ a r f k. search (rules, of_calls)) (rw none at c.strip_suffix.ensures.cases) in
+    let placed : Placed TextFault = c.in_err-body.field-0.0 in
+    let same : placed ≡ record { place = c.in-Some.count + 1; fault = Form } = search (rules, of_calls) in
+    let told = refused _ _ _ _ _ _ _ h c.if-text-gt-MOST_BYTES.false _ _ rest.0 _ (unended_least _ _ _ rest.1) in
+    let answer = only_answer _ _ _ _ _ _ told (all_rows _ _ _ _ _ _ _ h) in
+    let p = err_from_is_err_and c.from_residual.result c.from_residual.ensures.1 in
+    rw (p.1, p.2, same) (record { answer_and_rows = answer.0; no_other_answer = answer.1 })
 
--- a line with its line feed is the first line of what is left
-cut_line : (rest line after : List ℕ) → rest ≡ line ++ (10 ∷ after) → Lacks 10 line → FirstLine rest (line ++ (10 ∷ [])) after
-cut_line rest line after e lacks = record { parts = e ∙ sym (append_assoc line (10 ∷ []) after); ends = inl (line, refl, lacks) }
+pub next_row-requires : goal.next_row-requires
+next_row-requires c =
+    let s = c.in-Some.ensures.steps in
+    let some : c.strip_suffix.result ≡ Some c.in_ok-body.body = search rules in
+    let line = ended_line c.in-Some.line.now c.in_ok-body.body s.0 (λ a r f k. search (rules, of_calls)) (rw some at c.strip_suffix.ensures.cases) in
+    let h = rw (← s.1) at c.loop-count.invariant in
+    record { one_line = line.2; tally_of_before = h.tallied }
 
-pub returns-in_default : goal.returns-in_default
-returns-in_default c =
-    let h = c.loop-rest.invariant in
-    let rest = c.loop-rest.rest.now in
-    let lacks = c.in_default.ensures.parts in
-    let some : 0 < length rest = omega (arith, false-eqb _ 0 c.loop-rest-test.ensures) in
-    let first : FirstLine rest rest [] = record { parts = sym (append-nil rest); ends = inr (lacks, some, refl) } in
-    let told = refused _ _ _ _ _ _ _ h c.if-text-gt-MOST_BYTES.false rest [] first _ (unended_least _ _ rest lacks) in
-    record {
-      answer_and_rows = (take c.loop-rest.count c.loop-rest.rows, told, all_rows _ _ _ _ _ _ _ h);
-      no_other_answer = told_of_every _ _ _ _ _ _ told (all_rows _ _ _ _ _ _ _ h);
-    }
+pub returns-in_err-admitted : goal.returns-in_err-admitted
+returns-in_err-admitted c =
+    let s = c.in-Some.ensures.steps in
+    let h = rw (← s.1) at c.loop-count.invariant in
+    let some : c.strip_suffix.result ≡ Some c.in_ok-body.body = search rules in
+    let line = ended_line c.in-Some.line.now c.in_ok-body.body s.0 (λ a r f k. search (rules, of_calls)) (rw some at c.strip_suffix.ensures.cases) in
+    let body = c.in_ok-body.body.now in
+    let placed : Placed TextFault = c.in_err-admitted.field-0.0 in
+    let least = mapped_err _ (Admits c.in-Some.count c.loop-count.rows body) (Refuses c.in-Some.count c.loop-count.rows body) _ placed c.next_row.ensures.least_fault_or_row c.map_err.ensures.cases c.in_err-admitted.was in
+    let same : placed ≡ record { place = c.in-Some.count + 1; fault = least.0 } = let k = least.1 in search (rules, of_calls) in
+    let told = refused _ _ _ _ _ _ _ h c.if-text-gt-MOST_BYTES.false _ _ line.0 _ least.2 in
+    let answer = only_answer _ _ _ _ _ _ told (all_rows _ _ _ _ _ _ _ h) in
+    let p = err_from_is_err_and c.from_residual-in_err-admitted.result c.from_residual-in_err-admitted.ensures.1 in
+    rw (p.1, p.2, same) (record { answer_and_rows = answer.0; no_other_answer = answer.1 })
 
 pub bounds-rows-count : goal.bounds-rows-count
 bounds-rows-count c =
-    let given = c.in-Ok.ensures.least_fault_or_row in
-    let parts = c.in-Some.ensures.parts in
-    inside _ _ _ _ _ _ _ c.loop-rest.invariant _ _ parts.0 _ given.0 (subst (λ rs. NoneOf (RowFault (ltb c.loop-rest.count (length c.loop-rest.rows)) rs c.in-Ok.admitted.row)) (from_start c.loop-rest.count c.loop-rest.rows) given.1)
+    let told = mapped_ok _ (Admits c.in-Some.count c.loop-count.rows c.in_ok-body.body.now) (Refuses c.in-Some.count c.loop-count.rows c.in_ok-body.body.now) _ c.in_ok-admitted.admitted c.next_row.ensures.least_fault_or_row c.map_err.ensures.cases c.in_ok-admitted.was in
+    inside _ _ _ c.in_ok-admitted.admitted told
 
-pub returns-in-Err : goal.returns-in-Err
-returns-in-Err c =
-    let h = c.loop-rest.invariant in
-    let parts = c.in-Some.ensures.parts in
-    let line = c.in-Some.line.now ++ (10 ∷ []) in
-    let least = subst (λ rs. Least (LineFault (ltb c.loop-rest.count (length c.loop-rest.rows)) rs line) c.in-Err.fault) (from_start c.loop-rest.count c.loop-rest.rows) c.in-Err.ensures.least_fault_or_row in
-    let told = refused _ _ _ _ _ _ _ h c.if-text-gt-MOST_BYTES.false line _ (cut_line _ _ _ parts.0 parts.1) _ least in
-    record {
-      answer_and_rows = (take c.loop-rest.count c.loop-rest.rows, told, all_rows _ _ _ _ _ _ _ h);
-      no_other_answer = told_of_every _ _ _ _ _ _ told (all_rows _ _ _ _ _ _ _ h);
-    }
-
-pub loop-rest-smaller : goal.loop-rest-smaller
-loop-rest-smaller c =
-    let given = c.in-Ok.ensures.least_fault_or_row in
-    let parts = c.in-Some.ensures.parts in
-    shorter _ _ _ _ _ _ _ c.loop-rest.invariant _ _ parts.0 _ given.0 (subst (λ rs. NoneOf (RowFault (ltb c.loop-rest.count (length c.loop-rest.rows)) rs c.in-Ok.admitted.row)) (from_start c.loop-rest.count c.loop-rest.rows) given.1)
-
-pub loop-rest-preserved : goal.loop-rest-preserved
-loop-rest-preserved c =
-    let given = c.in-Ok.ensures.least_fault_or_row in
-    let parts = c.in-Some.ensures.parts in
-    let before = from_start c.loop-rest.count c.loop-rest.rows in
-    let row = c.in-Ok.admitted.row in
-    one_more _ _ _ _ _ _ _ c.loop-rest.invariant _ _ parts.0 _ given.0 (subst (λ rs. NoneOf (RowFault (ltb c.loop-rest.count (length c.loop-rest.rows)) rs row)) before given.1)
-    _ _ (subst (λ rs. Tallied (rs ++ (row ∷ [])) c.in-Ok.admitted.tally.counts c.in-Ok.admitted.tally.leaves) before given.2)
+pub loop-count-preserved : goal.loop-count-preserved
+loop-count-preserved c =
+    let s = c.in-Some.ensures.steps in
+    let h = rw (← s.1) at c.loop-count.invariant in
+    let some : c.strip_suffix.result ≡ Some c.in_ok-body.body = search rules in
+    let line = ended_line c.in-Some.line.now c.in_ok-body.body s.0 (λ a r f k. search (rules, of_calls)) (rw some at c.strip_suffix.ensures.cases) in
+    let body = c.in_ok-body.body.now in
+    let told = mapped_ok _ (Admits c.in-Some.count c.loop-count.rows body) (Refuses c.in-Some.count c.loop-count.rows body) _ c.in_ok-admitted.admitted c.next_row.ensures.least_fault_or_row c.map_err.ensures.cases c.in_ok-admitted.was in
+    let next : c.next.new.self.count ≡ c.in-Some.count + 1 = omega (arith, s.1, s.2) in
+    rw next (one_more _ _ _ _ _ _ _ h _ _ line.1 c.in_ok-admitted.admitted told)
 
 pub returns : goal.returns
 returns c =
-    let h = c.loop-rest.invariant in
-    let none = true-eqb _ 0 c.loop-rest-test.ensures in
-    let told = subst (λ k. Reads (length c.args.rows.now) c.args.text.now (Rattle.std.specs.declared.result.Result.TheVariants.Ok k) (take c.loop-rest.count c.loop-rest.rows)) (sym c.counts.ensures.counts_of_tally) (granted _ _ _ _ _ _ _ h c.if-text-gt-MOST_BYTES.false none) in
-    record {
-      answer_and_rows = (take c.loop-rest.count c.loop-rest.rows, told, all_rows _ _ _ _ _ _ _ h);
-      no_other_answer = told_of_every _ _ _ _ _ _ told (all_rows _ _ _ _ _ _ _ h);
-    }
+    let h = c.loop-count.invariant in
+    let s = c.in-None.ensures.steps in
+    let told = subst (λ k. Reads (length c.args.rows.now) c.args.text.now (Ok k) (take c.loop-count.count-iterator.count c.loop-count.rows)) (sym c.counts.ensures.counts_of_tally) (granted _ _ _ _ _ _ _ h c.if-text-gt-MOST_BYTES.false s.0.0) in
+    let answer = only_answer _ _ _ _ _ _ told (all_rows _ _ _ _ _ _ _ h) in
+    record { answer_and_rows = answer.0; no_other_answer = answer.1 }

@@ -1,9 +1,5 @@
-use Rattle.std.proofs.Common.{length}
 use Rattle.reader.proofs.Progress.{SoFar}
 use Rattle.reader.proofs.read.Given as goal
 
-abbrev pub invariant-loop-rest : goal.invariant-loop-rest
-invariant-loop-rest l = SoFar l.text l.initial.rows l.rows l.count l.rest l.tally.counts l.tally.leaves
-
-abbrev pub decreases-loop-rest : goal.decreases-loop-rest
-decreases-loop-rest l = length l.rest
+abbrev pub invariant-loop-count : goal.invariant-loop-count
+invariant-loop-count l = SoFar l.text l.initial.rows l.rows l.count-iterator.count l.count-iterator.iter.rest.now l.tally.counts l.tally.leaves
