@@ -1,5 +1,5 @@
 -- What the fields of a first line tell of the line, and the one answer to it. Assumes nothing.
-use Rattle.std.proofs.Common.{◌≡◌, ℕ, ◌<◌, true, false, List, [], ◌∷◌, ◌++◌, map, length, ℤ, pos, Some, None, Ok, Err, Option, Result, sym, refl, ap, ◌∙◌, subst, arith, w32, SFits, eq-eqb, true-eqb}
+use Rattle.std.proofs.Common.{◌≡◌, ℕ, ◌<◌, ◌≤◌, true, false, List, [], ◌∷◌, ◌++◌, map, length, ℤ, pos, decimal, Some, None, Ok, Err, Option, Result, sym, refl, ap, ◌∙◌, subst, arith, w32, SFits, eq-eqb, true-eqb}
 use denote.Struct.Props.{props}
 use Rattle.std.specs.Fmt.{signed_decimal}
 use Rattle.std.specs.List.{AllByRecursion}
@@ -11,7 +11,7 @@ use Rattle.arithmetic.specs.declared.kinds.Word.{Word as WordArithmetic}
 use Rattle.arithmetic.specs.declared.kinds.Counter.{Counter as CounterArithmetic}
 use Rattle.arithmetic.specs.Settings.{word_settings, counter_settings}
 use Rattle.text.specs.Slots.{Slot, literal, number, word, written, InRange, Lacks, Free, Fits}
-use Rattle.text.specs.Reading.{keyword_of, number_of, word_of, cut}
+use Rattle.text.specs.Reading.{keyword_of, number_of, word_of, both, all_three, cut}
 use Rattle.text.proofs.Laws.{none_some, number_written, number_exact, word_written, word_exact, keyword_found}
 use Rattle.heads.specs.declared.keywords.KindWord.{KindWord}
 use Rattle.heads.specs.declared.keywords.KindWord.TheVariants.{Word as WordKind, Counter as CounterKind}
@@ -20,7 +20,7 @@ use Rattle.heads.specs.declared.settings.Kind.TheVariants.{Word, Counter}
 use Rattle.heads.specs.declared.settings.Settings.{Settings}
 use Rattle.heads.specs.declared.settings.Settings.TheVariants.{Word as WordNumbers, Counter as CounterNumbers}
 use Rattle.heads.specs.Words.{arithmetic_word, kind_word, kind_table}
-use Rattle.heads.specs.Fields.{after_word, both_words, two_words, with_number, word_of_range, counter_of_range, settings_by, settings_after, settings_in, settings_formed_by, settings_formed_after, settings_formed}
+use Rattle.heads.specs.Fields.{after_word, two_words, number_and_two_words, word_of_range, counter_of_range, settings_by, settings_after, settings_in, settings_formed_by, settings_formed_after, settings_formed}
 use Rattle.heads.specs.Lines.{SpellsWithin, Least, Only}
 use Rattle.text.specs.Lines.{Spells}
 use Rattle.heads.specs.Arithmetics.{settings_slots, SettingsWithinLimits, settings_of, Made, ArithmeticLineFault, ArithmeticAnswer}
@@ -33,50 +33,69 @@ settings_written : (s : Settings) → AllByRecursion InRange (settings_slots s) 
 settings_written (WordNumbers lo hi) h = rw (word_written lo h.1.1.0, word_written hi h.1.1.1.0)
 settings_written (CounterNumbers top lo hi) h = rw (number_written top h.1.1.0, word_written lo h.1.1.1.0, word_written hi h.1.1.1.1.0)
 
--- the two words that are read have 32 bits, and are written by the two fields
-both_say : (x y : Option ℤ) (p : ℤ × ℤ) → both_words x y ≡ Some p → (x ≡ Some p.0) × (y ≡ Some p.1)
-both_say None y p e = absurd (none_some p e)
-both_say (Some a) None p e = absurd (none_some p e)
-both_say (Some a) (Some b) p e =
-    let d : ◌≡◌ {A = ℤ × ℤ} (a, b) p = cc in
-    (ap (λ (t : ℤ × ℤ). Some t.0) d, ap (λ (t : ℤ × ℤ). Some t.1) d)
+-- values that are all read are each read
+both_say : {A B : Type 0} (x : Option A) (y : Option B) (p : A × B) → both x y ≡ Some p → (x ≡ Some p.0) × (y ≡ Some p.1)
+both_say None y p e = cc
+both_say (Some a) None p e = cc
+both_say {A = A} {B = B} (Some a) (Some b) p e =
+    let d : ◌≡◌ {A = A × B} (a, b) p = cc in
+    (ap (λ (t : A × B). Some t.0) d, ap (λ (t : A × B). Some t.1) d)
 
+all_say : {A B C : Type 0} (x : Option A) (y : Option B) (z : Option C) (p : A × B × C) → all_three x y z ≡ Some p → (x ≡ Some p.0) × (y ≡ Some p.1) × (z ≡ Some p.2)
+all_say None y z p e = cc
+all_say (Some a) None z p e = cc
+all_say (Some a) (Some b) None p e = cc
+all_say {A = A} {B = B} {C = C} (Some a) (Some b) (Some c) p e =
+    let d : ◌≡◌ {A = A × B × C} (a, b, c) p = cc in
+    (ap (λ (t : A × B × C). Some t.0) d, ap (λ (t : A × B × C). Some t.1) d, ap (λ (t : A × B × C). Some t.2) d)
+
+-- the two words that are read have 32 bits, and are written by the two fields
 words_exact : (fs : List (List ℕ)) (p : ℤ × ℤ) → two_words fs ≡ Some p → (fs ≡ signed_decimal p.0 ∷ signed_decimal p.1 ∷ []) × SFits w32 p.0 × SFits w32 p.1
-words_exact [] p e = absurd (none_some p e)
-words_exact (f ∷ []) p e = absurd (none_some p e)
+words_exact [] p e = cc
+words_exact (f ∷ []) p e = cc
 words_exact (f ∷ g ∷ []) p e =
     let q = both_say (word_of f) (word_of g) p e in
     let x = word_exact f p.0 q.0 in
     let y = word_exact g p.1 q.1 in
     (rw (x.1, y.1) refl, x.0, y.0)
-words_exact (f ∷ g ∷ h ∷ fs) p e = absurd (none_some p e)
+words_exact (f ∷ g ∷ h ∷ fs) p e = cc
+
+-- a number before them is in its range, and is written by the field before theirs
+number_words_exact : (fs : List (List ℕ)) (p : ℕ × ℤ × ℤ) → number_and_two_words fs ≡ Some p → (fs ≡ decimal p.0 ∷ signed_decimal p.1 ∷ signed_decimal p.2 ∷ []) × (p.0 ≤ 65535) × SFits w32 p.1 × SFits w32 p.2
+number_words_exact [] p e = cc
+number_words_exact (f ∷ []) p e = cc
+number_words_exact (f ∷ g ∷ []) p e = cc
+number_words_exact (f ∷ g ∷ h ∷ []) p e =
+    let q = all_say (number_of f) (word_of g) (word_of h) p e in
+    let x = number_exact f p.0 q.0 in
+    let y = word_exact g p.1 q.1 in
+    let z = word_exact h p.2 q.2 in
+    (rw (x.1, y.1, z.1) refl, x.0, y.0, z.0)
+number_words_exact (f ∷ g ∷ h ∷ i ∷ fs) p e = cc
 
 -- slots whose numbers are in range, and that the fields are written by
 abbrev WrittenBy : Settings → List (List ℕ) → Type 0
 WrittenBy s gs = AllByRecursion InRange (settings_slots s) × (map written (settings_slots s) ≡ gs)
 
-word_exact_of : (o : Option (ℤ × ℤ)) (fs : List (List ℕ)) (s : Settings) → two_words fs ≡ o → word_of_range o ≡ Some s → WrittenBy s (arithmetic_word ∷ kind_word WordKind ∷ fs)
-word_exact_of None fs s is e = absurd (none_some s e)
-word_exact_of (Some p) fs s is e =
-    let x = words_exact fs p is in
-    let same : WordNumbers p.0 p.1 ≡ s = cc in
-    subst (λ t. WrittenBy t (arithmetic_word ∷ kind_word WordKind ∷ fs)) same
-    ((tt, (tt, (x.1, (x.2, tt)))), ap (λ hs. arithmetic_word ∷ kind_word WordKind ∷ hs) (sym x.0))
-
-counter_exact_of : (m : Option ℕ) (o : Option (ℤ × ℤ)) (f : List ℕ) (fs : List (List ℕ)) (s : Settings) → number_of f ≡ m → two_words fs ≡ o → counter_of_range (with_number m o) ≡ Some s → WrittenBy s (arithmetic_word ∷ kind_word CounterKind ∷ f ∷ fs)
-counter_exact_of None o f fs s is are e = absurd (none_some s e)
-counter_exact_of (Some n) None f fs s is are e = absurd (none_some s e)
-counter_exact_of (Some n) (Some p) f fs s is are e =
-    let y = number_exact f n is in
-    let x = words_exact fs p are in
-    let same : CounterNumbers n p.0 p.1 ≡ s = cc in
-    subst (λ t. WrittenBy t (arithmetic_word ∷ kind_word CounterKind ∷ f ∷ fs)) same
-    ((tt, (tt, (y.0, (x.1, (x.2, tt))))), rw y.1 (ap (λ hs. arithmetic_word ∷ kind_word CounterKind ∷ f ∷ hs) (sym x.0)))
-
 kind_exact : (k : KindWord) (fs : List (List ℕ)) (s : Settings) → settings_by (Some k) fs ≡ Some s → WrittenBy s (arithmetic_word ∷ kind_word k ∷ fs)
-kind_exact WordKind fs s e = word_exact_of (two_words fs) fs s refl e
-kind_exact CounterKind [] s e = absurd (none_some s e)
-kind_exact CounterKind (f ∷ fs) s e = counter_exact_of (number_of f) (two_words fs) f fs s refl refl e
+kind_exact WordKind fs s e = read (two_words fs) refl e
+  where
+    read : (o : Option (ℤ × ℤ)) → two_words fs ≡ o → word_of_range o ≡ Some s → WrittenBy s (arithmetic_word ∷ kind_word WordKind ∷ fs)
+    read None is h = cc
+    read (Some p) is h =
+        let x = words_exact fs p is in
+        let same : WordNumbers p.0 p.1 ≡ s = cc in
+        subst (λ t. WrittenBy t (arithmetic_word ∷ kind_word WordKind ∷ fs)) same
+        ((tt, (tt, (x.1, (x.2, tt)))), ap (λ hs. arithmetic_word ∷ kind_word WordKind ∷ hs) (sym x.0))
+kind_exact CounterKind fs s e = read (number_and_two_words fs) refl e
+  where
+    read : (o : Option (ℕ × ℤ × ℤ)) → number_and_two_words fs ≡ o → counter_of_range o ≡ Some s → WrittenBy s (arithmetic_word ∷ kind_word CounterKind ∷ fs)
+    read None is h = cc
+    read (Some p) is h =
+        let x = number_words_exact fs p is in
+        let same : CounterNumbers p.0 p.1 p.2 ≡ s = cc in
+        subst (λ t. WrittenBy t (arithmetic_word ∷ kind_word CounterKind ∷ fs)) same
+        ((tt, (tt, (x.1, (x.2, (x.3, tt))))), ap (λ hs. arithmetic_word ∷ kind_word CounterKind ∷ hs) (sym x.0))
 
 -- the settings that fields spell are written by them
 settings_exact : (gs : List (List ℕ)) (s : Settings) → settings_in gs ≡ Some s → WrittenBy s gs

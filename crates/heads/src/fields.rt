@@ -1,5 +1,5 @@
 //! What the fields of a head line spell.
-ghost use Rattle.heads.specs.Fields.{after_word, number_and_two_words, play_formed, play_in, settings_formed, settings_in, two_words};
+ghost use Rattle.heads.specs.Fields.{after_word, play_formed, play_in, settings_formed, settings_in};
 ghost use Rattle.std.specs.Option.{option_map};
 ghost use Rattle.text.specs.Reading.{cut};
 ghost use Rattle.text.specs.Remaining.{remaining};
@@ -8,7 +8,7 @@ ghost use Rattle.std.specs.Prelude.{◌≡◌, MatchOption};
 
 use crate::keywords::KindWord;
 use crate::settings::{PlayNumbers, Settings};
-use text::{Fields, Keyword, first_line, keyword_of, number, signed_word, spells, three_numbers};
+use text::{Fields, Keyword, first_line, keyword_of, spells};
 
 // The fields of a line; none where a line feed stands in it.
 pub(crate) fn line_fields(line: &[u8]) -> Option<Fields<'_>>
@@ -25,31 +25,7 @@ fn after_word<'a>(word: &[u8], fields: Fields<'a>) -> Option<Fields<'a>>
     ensures fields_after_it { option_map remaining result ≡ after_word word.now (remaining fields.entry) }
 {
     let (first, others) = fields.split()?;
-    if spells(word, first) {
-        Some(others)
-    } else {
-        None
-    }
-}
-
-// The words that the fields left are, if there are exactly two and each is one.
-fn two_words(fields: Fields) -> Option<(i32, i32)>
-    ensures value { result ≡ two_words (remaining fields.entry) }
-{
-    let (first, others) = fields.split()?;
-    let a = signed_word(first)?;
-    let b = signed_word(others.only()?)?;
-    Some((a, b))
-}
-
-// The number and the two words that the fields left are, if there are exactly three and each is one.
-fn number_and_two_words(fields: Fields) -> Option<(u32, i32, i32)>
-    ensures value { result ≡ number_and_two_words (remaining fields.entry) }
-{
-    let (first, others) = fields.split()?;
-    let a = number(first)?;
-    let (b, c) = two_words(others)?;
-    Some((a, b, c))
+    spells(word, first).then_some(others)
 }
 
 // Whether the fields of a line have the form of a first line, whatever stands where numbers belong.
@@ -77,11 +53,11 @@ pub(crate) fn settings_in(fields: Fields) -> Option<Settings>
     let (word, numbers) = kind.split()?;
     match keyword_of::<KindWord>(word)? {
         KindWord::Word => {
-            let (lo, hi) = two_words(numbers)?;
+            let (lo, hi) = numbers.two::<i32, i32>()?;
             Some(Settings::Word { lo, hi })
         }
         KindWord::Counter => {
-            let (top, lo, hi) = number_and_two_words(numbers)?;
+            let (top, lo, hi) = numbers.three::<u32, i32, i32>()?;
             Some(Settings::Counter { top, lo, hi })
         }
     }
@@ -101,7 +77,7 @@ pub(crate) fn play_formed(fields: Fields) -> bool
 pub(crate) fn play_in(fields: Fields) -> Option<PlayNumbers>
     ensures value { result ≡ play_in (remaining fields.entry) }
 {
-    let (depth, insistence, steps) = three_numbers(after_word(b"play", fields)?)?;
+    let (depth, insistence, steps) = after_word(b"play", fields)?.three()?;
     Some(PlayNumbers {
         depth,
         insistence,
