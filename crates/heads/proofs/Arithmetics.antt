@@ -1,9 +1,9 @@
 -- What the fields of a first line tell of the line, and the one answer to it. Assumes nothing.
-use Rattle.std.proofs.Common.{◌≡◌, ℕ, ◌<◌, ◌≤◌, true, false, List, [], ◌∷◌, ◌++◌, map, length, ℤ, pos, decimal, Some, None, Ok, Err, Option, Result, sym, refl, ap, ◌∙◌, subst, arith, w32, SFits, eq-eqb, true-eqb}
+use Rattle.std.proofs.Common.{◌≡◌, ℕ, ◌<◌, ◌≤◌, true, false, List, [], ◌∷◌, ◌++◌, map, length, ℤ, pos, decimal, Some, None, Ok, Err, Option, Result, sym, refl, ap, ◌∙◌, subst, inl, inr, ◌⊎◌, arith, w32, SFits, eq-eqb, true-eqb}
 use denote.Struct.Props.{props}
 use Rattle.std.specs.Fmt.{signed_decimal}
 use Rattle.std.specs.List.{AllByRecursion}
-use Rattle.faults.specs.declared.TextFault.TheVariants.{Form, Number}
+use Rattle.faults.specs.declared.TextFault.{TextFault}
 use Rattle.faults.specs.declared.PlayFault.{PlayFault}
 use Rattle.faults.specs.declared.PlayFault.TheVariants.{Text, Typing, Bounds, Settings as SettingsFault}
 use Rattle.faults.specs.Numbers.{play_number}
@@ -21,12 +21,13 @@ use Rattle.heads.specs.declared.settings.Settings.{Settings}
 use Rattle.heads.specs.declared.settings.Settings.TheVariants.{Word as WordNumbers, Counter as CounterNumbers}
 use Rattle.heads.specs.Words.{arithmetic_word, kind_word, kind_table}
 use Rattle.heads.specs.Fields.{after_word, two_words, number_and_two_words, word_of_range, counter_of_range, settings_by, settings_after, settings_in, settings_formed_by, settings_formed_after, settings_formed}
-use Rattle.heads.specs.Lines.{SpellsWithin, Least, Only}
+use Rattle.heads.specs.Lines.{SpellsOutside, Only}
 use Rattle.text.specs.Lines.{Spells}
 use Rattle.heads.specs.Arithmetics.{settings_slots, SettingsWithinLimits, settings_of, Made, ArithmeticLineFault, ArithmeticAnswer}
-use Rattle.heads.proofs.Lines.{Reading, false_true, free_fits, after_found, formed_line, spells_read, spells_once, text_faultless, feed_unformed, fields_unformed, spells_none, same_made}
+use Rattle.heads.proofs.Lines.{Reading, false_true, free_fits, after_found, same_made}
 use Rattle.text.proofs.Forms.{words_free, fits_length, word_first}
-use Rattle.heads.proofs.Answering.{least_form, least_number, one_answer}
+use Rattle.heads.specs.Heads.{ByFields}
+use Rattle.heads.proofs.Heads.{Faults, MadeWithin, head_answered}
 
 -- the fields of settings spell them
 settings_written : (s : Settings) → AllByRecursion InRange (settings_slots s) → settings_in (map written (settings_slots s)) ≡ Some s
@@ -185,46 +186,19 @@ same_kind (Word v) (Counter w) e = let z : ◌≡◌ {A = ℕ} 0 1 = cc in absur
 same_kind (Counter v) (Word w) e = let z : ◌≡◌ {A = ℕ} 0 1 = cc in absurd (omega arith)
 same_kind (Counter v) (Counter w) e = ap Counter (same_counter v w (cc) (cc) (cc))
 
-module _ (body : List ℕ) where
-  abbrev line : List ℕ
-  line = body ++ (10 ∷ [])
+settings_faults : Faults settings_slots SettingsWithinLimits SettingsFault ArithmeticLineFault
+settings_faults = record { of_text = λ line fault h. h; text_of = λ line fault h. h; of_outside = λ line h. h; kinds = kinds }
+  where
+    kinds : (line : List ℕ) (fault : PlayFault) → ArithmeticLineFault line fault → ((f : TextFault) × (fault ≡ Text f)) ⊎ ((fault ≡ SettingsFault) × SpellsOutside settings_slots SettingsWithinLimits line)
+    kinds line (Text fault) h = inl (fault, refl)
+    kinds line (Typing fault) h = absurd h
+    kinds line Bounds h = absurd h
+    kinds line SettingsFault h = inr (refl, h)
 
-  faultless : (kind : Kind) (fault : PlayFault) → SpellsWithin settings_slots SettingsWithinLimits line (settings_of kind) → ArithmeticLineFault line fault → ⊥
-  faultless kind (Text fault) h k = text_faultless _ _ _ settings_reading body (settings_of kind) h.spelled fault k
-  faultless kind (Typing f) h k = k
-  faultless kind Bounds h k = k
-  faultless kind SettingsFault h k =
-      k.2 (subst SettingsWithinLimits (spells_once _ _ _ settings_reading body (settings_of kind) k.0 h.spelled k.1) h.within)
-
-  -- every allowed answer is this one
-  pub only_arithmetic : (r : Result Kind PlayFault) → ArithmeticAnswer line r → Only (ArithmeticAnswer line) r
-  only_arithmetic =
-      one_answer (λ kind. SpellsWithin settings_slots SettingsWithinLimits line (settings_of kind)) (ArithmeticLineFault line)
-      (λ a b h k. same_kind a b (spells_once _ _ _ settings_reading body (settings_of a) (settings_of b) h.spelled k.spelled)) faultless
-
-  outside_least : (s : Settings) → Spells settings_slots line s → (SettingsWithinLimits s → ⊥) → Least (ArithmeticLineFault line) SettingsFault
-  outside_least s h outside = record { here = (s, h, outside); none_smaller = below }
-    where
-      below : (other : PlayFault) → play_number other < 22 → ArithmeticLineFault line other → ⊥
-      below (Text fault) less k = text_faultless _ _ _ settings_reading body s h fault k
-      below (Typing f) less k = k
-      below Bounds less k = k
-      below SettingsFault less k = omega arith
-
-  -- the answers of the code, from what it finds out
-  pub arithmetic_with_feed : (Lacks 10 body → ⊥) → ArithmeticAnswer line (Err (Text Form))
-  arithmetic_with_feed feed = least_form (ArithmeticLineFault line) (feed_unformed _ _ _ settings_reading body feed)
-
-  pub arithmetic_unformed : settings_formed (cut body) ≡ false → ArithmeticAnswer line (Err (Text Form))
-  arithmetic_unformed e = least_form (ArithmeticLineFault line) (fields_unformed _ _ _ settings_reading body e)
-
-  pub arithmetic_misnumbered : Lacks 10 body → settings_formed (cut body) ≡ true → settings_in (cut body) ≡ None → ArithmeticAnswer line (Err (Text Number))
-  arithmetic_misnumbered lacks e none =
-      least_number (ArithmeticLineFault line) (spells_none _ _ _ settings_reading body none)
-      (λ unformed. unformed (formed_line _ _ _ settings_reading body lacks e))
-
-  pub arithmetic_made : (s : Settings) (r : Result Kind PlayFault) → settings_in (cut body) ≡ Some s → Made s r → ArithmeticAnswer line r
-  arithmetic_made s (Ok kind) e h =
-      record { spelled = subst (Spells settings_slots line) (sym h.1) (spells_read _ _ _ settings_reading body s e); within = subst SettingsWithinLimits (sym h.1) h.0 }
-  arithmetic_made s (Err fault) e h =
-      subst (Least (ArithmeticLineFault line)) (sym h.1) (outside_least s (spells_read _ _ _ settings_reading body s e) h.0)
+-- the answer by the fields of a first line is allowed, and the only one
+pub arithmetic_answered : (body : List ℕ) (r : Result Kind PlayFault) → ByFields settings_formed settings_in Made body r → ArithmeticAnswer (body ++ (10 ∷ [])) r × Only (ArithmeticAnswer (body ++ (10 ∷ []))) r
+arithmetic_answered = head_answered settings_reading settings_faults settings_of same_kind Made makes
+  where
+    makes : (s : Settings) (r : Result Kind PlayFault) → Made s r → MadeWithin SettingsWithinLimits SettingsFault settings_of s r
+    makes s (Ok kind) h = h
+    makes s (Err fault) h = h

@@ -12,6 +12,7 @@ use Rattle.text.specs.Reading.{cut}
 use Rattle.text.proofs.Laws.{none_some, cut_free, commas_cut}
 use Rattle.text.proofs.Forms.{word_first, words_free, fits_free, written_fits, commas_lack, cut_fields}
 use Rattle.heads.specs.Fields.{after_word}
+use Rattle.heads.specs.Heads.{FieldsFormed}
 use Rattle.heads.specs.Lines.{HasTextFault}
 use Rattle.text.specs.Lines.{Spells, Formed}
 
@@ -73,15 +74,15 @@ module _ {X : Type 0} (slots : X → List Slot) (formed : List (List ℕ) → Bo
       (ap cut whole ∙ cut_fields gs free some, subst (Lacks 10) (sym whole) (commas_lack gs free))
 
   -- a line has a form just where its fields have one and no line feed stands in it
-  pub formed_line : Lacks 10 body → formed (cut body) ≡ true → Formed slots line
-  formed_line lacks e =
-      let p = laws.form (cut body) (cut_free body lacks) e in
+  pub formed_line : FieldsFormed formed body → Formed slots line
+  formed_line h =
+      let p = laws.form (cut body) (cut_free body h.0) h.1 in
       (p.0, cut body, p.1, ap (λ b. b ++ (10 ∷ [])) (sym (commas_cut body)))
 
-  pub formed_fields : Formed slots line → (formed (cut body) ≡ true) × Lacks 10 body
+  pub formed_fields : Formed slots line → FieldsFormed formed body
   formed_fields h =
       let back = fields_back h.0 h.1 h.2 h.3 in
-      (ap formed back.0 ∙ laws.fits h.0 h.1 h.2, back.1)
+      (back.1, ap formed back.0 ∙ laws.fits h.0 h.1 h.2)
 
   -- a line spells just what its fields are read as
   pub spells_read : (x : X) → read (cut body) ≡ Some x → Spells slots line x
@@ -110,13 +111,6 @@ module _ {X : Type 0} (slots : X → List Slot) (formed : List (List ℕ) → Bo
   text_faultless x h Reference k = k
   text_faultless x h Limit k = k
   text_faultless x h Repeat k = k
-
-  -- the form fails where a line feed stands in the line, or where the fields have no form
-  pub feed_unformed : (Lacks 10 body → ⊥) → Formed slots line → ⊥
-  feed_unformed feed h = feed (formed_fields h).1
-
-  pub fields_unformed : formed (cut body) ≡ false → Formed slots line → ⊥
-  fields_unformed e h = both_ways _ e (formed_fields h).0
 
   -- nothing is spelled where nothing is read
   pub spells_none : read (cut body) ≡ None → (x : X) → Spells slots line x → ⊥
