@@ -1,18 +1,17 @@
 -- What the fields of a first line tell of the line, and the one answer to it. Assumes nothing.
-use Rattle.std.proofs.Common.{◌≡◌, ℕ, ◌<◌, ◌≤◌, true, false, List, [], ◌∷◌, ◌++◌, map, length, ℤ, pos, decimal, Some, None, Ok, Err, Option, Result, sym, refl, ap, ◌∙◌, subst, inl, inr, ◌⊎◌, arith, w32, SFits, eq-eqb, true-eqb}
+use Rattle.std.proofs.Common.{◌≡◌, ℕ, ◌≤◌, true, List, [], ◌∷◌, ◌++◌, map, length, ℤ, pos, decimal, Some, None, Ok, Err, Option, Result, sym, refl, ap, ◌∙◌, subst, inl, inr, ◌⊎◌, w32, SFits, eq-eqb, true-eqb}
 use denote.Struct.Props.{props}
 use Rattle.std.specs.Fmt.{signed_decimal}
 use Rattle.std.specs.List.{AllByRecursion}
 use Rattle.faults.specs.declared.TextFault.{TextFault}
 use Rattle.faults.specs.declared.PlayFault.{PlayFault}
 use Rattle.faults.specs.declared.PlayFault.TheVariants.{Text, Typing, Bounds, Settings as SettingsFault}
-use Rattle.faults.specs.Numbers.{play_number}
 use Rattle.arithmetic.specs.declared.kinds.Word.{Word as WordArithmetic}
 use Rattle.arithmetic.specs.declared.kinds.Counter.{Counter as CounterArithmetic}
 use Rattle.arithmetic.specs.Settings.{word_settings, counter_settings}
-use Rattle.text.specs.Slots.{Slot, literal, number, word, written, InRange, Lacks, Free, Fits}
-use Rattle.text.specs.Reading.{keyword_of, number_of, word_of, both, all_three, cut}
-use Rattle.text.proofs.Laws.{none_some, number_written, number_exact, word_written, word_exact, keyword_found}
+use Rattle.text.specs.Slots.{Slot, literal, number, word, written, InRange, Free, Fits}
+use Rattle.text.specs.Reading.{keyword_of, number_of, word_of, both, all_three}
+use Rattle.text.proofs.Laws.{number_written, number_exact, word_written, word_exact, keyword_found}
 use Rattle.heads.specs.declared.keywords.KindWord.{KindWord}
 use Rattle.heads.specs.declared.keywords.KindWord.TheVariants.{Word as WordKind, Counter as CounterKind}
 use Rattle.heads.specs.declared.settings.Kind.{Kind}
@@ -22,9 +21,8 @@ use Rattle.heads.specs.declared.settings.Settings.TheVariants.{Word as WordNumbe
 use Rattle.heads.specs.Words.{arithmetic_word, kind_word, kind_table}
 use Rattle.heads.specs.Fields.{after_word, two_words, number_and_two_words, word_of_range, counter_of_range, settings_by, settings_after, settings_in, settings_formed_by, settings_formed_after, settings_formed}
 use Rattle.heads.specs.Lines.{SpellsOutside, Only}
-use Rattle.text.specs.Lines.{Spells}
 use Rattle.heads.specs.Arithmetics.{settings_slots, SettingsWithinLimits, settings_of, Made, ArithmeticLineFault, ArithmeticAnswer}
-use Rattle.heads.proofs.Lines.{Reading, false_true, free_fits, after_found, same_made}
+use Rattle.heads.proofs.Lines.{Reading, free_fits, after_found, same_made}
 use Rattle.text.proofs.Forms.{words_free, fits_length, word_first}
 use Rattle.heads.specs.Heads.{ByFields}
 use Rattle.heads.proofs.Heads.{Faults, MadeWithin, head_answered}
@@ -103,12 +101,12 @@ settings_exact : (gs : List (List ℕ)) (s : Settings) → settings_in gs ≡ So
 settings_exact gs s e = after (after_word arithmetic_word gs) refl e
   where
     named : (f : List ℕ) (fs : List (List ℕ)) (k : Option KindWord) → keyword_of kind_word kind_table f ≡ k → settings_by k fs ≡ Some s → WrittenBy s (arithmetic_word ∷ f ∷ fs)
-    named f fs None found h = absurd (none_some s h)
+    named f fs None found h = cc
     named f fs (Some k) found h = subst (λ v. WrittenBy s (arithmetic_word ∷ v ∷ fs)) (keyword_found kind_word kind_table f k found) (kind_exact k fs s h)
 
     after : (o : Option (List (List ℕ))) → after_word arithmetic_word gs ≡ o → settings_after o ≡ Some s → WrittenBy s gs
-    after None is h = absurd (none_some s h)
-    after (Some []) is h = absurd (none_some s h)
+    after None is h = cc
+    after (Some []) is h = cc
     after (Some (f ∷ fs)) is h =
         subst (WrittenBy s) (sym (after_found arithmetic_word gs (f ∷ fs) is)) (named f fs (keyword_of kind_word kind_table f) refl h)
 
@@ -137,13 +135,13 @@ settings_form : (gs : List (List ℕ)) → AllByRecursion Free gs → settings_f
 settings_form gs free e = after (after_word arithmetic_word gs) refl e
   where
     named : (f : List ℕ) (fs : List (List ℕ)) → AllByRecursion Free fs → (k : Option KindWord) → keyword_of kind_word kind_table f ≡ k → settings_formed_by k fs ≡ true → (s : Settings) × Fits (settings_slots s) (arithmetic_word ∷ f ∷ fs)
-    named f fs here None found h = absurd (false_true h)
+    named f fs here None found h = cc
     named f fs here (Some k) found h =
         subst (λ v. (s : Settings) × Fits (settings_slots s) (arithmetic_word ∷ v ∷ fs)) (keyword_found kind_word kind_table f k found) (kind_form k fs here h)
 
     after : (o : Option (List (List ℕ))) → after_word arithmetic_word gs ≡ o → settings_formed_after o ≡ true → (s : Settings) × Fits (settings_slots s) gs
-    after None is h = absurd (false_true h)
-    after (Some []) is h = absurd (false_true h)
+    after None is h = cc
+    after (Some []) is h = cc
     after (Some (f ∷ fs)) is h =
         let whole = after_found arithmetic_word gs (f ∷ fs) is in
         let here : AllByRecursion Free (arithmetic_word ∷ f ∷ fs) = subst (AllByRecursion Free) whole free in
@@ -182,8 +180,8 @@ same_counter v w top lo hi =
 
 same_kind : (a b : Kind) → settings_of a ≡ settings_of b → a ≡ b
 same_kind (Word v) (Word w) e = ap Word (same_word v w (cc) (cc))
-same_kind (Word v) (Counter w) e = let z : ◌≡◌ {A = ℕ} 0 1 = cc in absurd (omega arith)
-same_kind (Counter v) (Word w) e = let z : ◌≡◌ {A = ℕ} 0 1 = cc in absurd (omega arith)
+same_kind (Word v) (Counter w) e = cc
+same_kind (Counter v) (Word w) e = cc
 same_kind (Counter v) (Counter w) e = ap Counter (same_counter v w (cc) (cc) (cc))
 
 settings_faults : Faults settings_slots SettingsWithinLimits SettingsFault ArithmeticLineFault

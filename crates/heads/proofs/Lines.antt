@@ -1,10 +1,9 @@
 -- What the fields of a line tell of the line, for any thing that a line may name. Assumes nothing.
-use Rattle.std.proofs.Common.{◌≡◌, ℕ, Bool, true, false, cond, List, [], ◌∷◌, ◌++◌, map, length, Some, None, Option, sym, refl, ap, ◌∙◌, subst, arith}
+use Rattle.std.proofs.Common.{◌≡◌, ℕ, Bool, true, cond, List, [], ◌∷◌, ◌++◌, map, length, Some, None, Option, sym, refl, ap, ◌∙◌, subst, arith}
 use Rattle.std.specs.List.{AllByRecursion}
 use Rattle.std.specs.Str.{bytes_eq}
 use Rattle.std.proofs.lemmas.Slice.Eq.{bytes_eq-Decides}
 use Rattle.std.proofs.lemmas.List.{same_from_push}
-use Rattle.std.proofs.lemmas.Bool.{both_ways}
 use Rattle.faults.specs.declared.TextFault.{TextFault}
 use Rattle.faults.specs.declared.TextFault.TheVariants.{Form, Number, Order, Reference, Limit, Repeat}
 use Rattle.text.specs.Slots.{Slot, literal, number, word, written, InRange, Lacks, Free, Fits, commas}
@@ -15,9 +14,6 @@ use Rattle.heads.specs.Fields.{after_word}
 use Rattle.heads.specs.Heads.{FieldsFormed}
 use Rattle.heads.specs.Lines.{HasTextFault}
 use Rattle.text.specs.Lines.{Spells, Formed}
-
-pub false_true : false ≡ true → ⊥
-false_true e = both_ways false refl e
 
 -- a number stands in the slot
 abbrev pub Blank : Slot → Type 0
@@ -36,11 +32,10 @@ free_fits (word z ∷ ss) (g ∷ gs) blank free e = (free.0, free_fits ss gs bla
 
 -- the fields after a first word
 taken_says : {Y : Type 0} (t : Bool) (x y : Y) → cond t (Some x) None ≡ Some y → (t ≡ true) × (x ≡ y)
-taken_says true x y e = (refl, cc)
-taken_says false x y e = absurd (none_some y e)
+taken_says t x y e = grind arith
 
 pub after_found : (w : List ℕ) (gs hs : List (List ℕ)) → after_word w gs ≡ Some hs → gs ≡ w ∷ hs
-after_found w [] hs e = absurd (none_some hs e)
+after_found w [] hs e = cc
 after_found w (g ∷ gs) hs e =
     let p = taken_says (bytes_eq w g) gs hs e in
     let same = (bytes_eq-Decides w g).0 p.0 in
@@ -69,7 +64,7 @@ module _ {X : Type 0} (slots : X → List Slot) (formed : List (List ℕ) → Bo
   fields_back x gs h same =
       let free = fits_free (slots x) gs (laws.free x) h in
       let first = word_first laws.first_word (laws.others x) gs (subst (λ ss. Fits ss gs) (laws.begins x) h) in
-      let some : gs ≡ [] → ⊥ = λ e. let z : ◌≡◌ {A = List (List ℕ)} [] (laws.first_word ∷ first.0) = sym e ∙ first.1 in let one : ◌≡◌ {A = ℕ} 0 1 = cc in omega arith in
+      let some : gs ≡ [] → ⊥ = λ e. let z : ◌≡◌ {A = List (List ℕ)} [] (laws.first_word ∷ first.0) = sym e ∙ first.1 in cc in
       let whole = (same_from_push body (commas gs) 10 10 same).0 in
       (ap cut whole ∙ cut_fields gs free some, subst (Lacks 10) (sym whole) (commas_lack gs free))
 

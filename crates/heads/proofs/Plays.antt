@@ -1,24 +1,22 @@
 -- What the fields of a second line tell of the line, and the one answer to it. Assumes nothing.
-use Rattle.std.proofs.Common.{◌≡◌, ℕ, ◌<◌, true, false, List, [], ◌∷◌, ◌++◌, map, length, Some, None, Ok, Err, Option, Result, sym, refl, ap, ◌∙◌, subst, inl, inr, ◌⊎◌, arith, eq-eqb, true-eqb}
+use Rattle.std.proofs.Common.{◌≡◌, ℕ, true, List, [], ◌∷◌, ◌++◌, map, length, Some, None, Ok, Err, Option, Result, sym, refl, ap, ◌∙◌, subst, inl, inr, ◌⊎◌, eq-eqb, true-eqb}
 use denote.Struct.Props.{props}
 use Rattle.std.specs.List.{AllByRecursion}
 use Rattle.faults.specs.declared.TextFault.{TextFault}
 use Rattle.faults.specs.declared.PlayFault.{PlayFault}
 use Rattle.faults.specs.declared.PlayFault.TheVariants.{Text, Typing, Bounds as BoundsFault, Settings}
-use Rattle.faults.specs.Numbers.{play_number}
 use Rattle.bounds.specs.declared.limits.Bounds.{Bounds}
 use Rattle.bounds.specs.Limits.{DepthLimit, InsistenceLimit, StepsLimit}
 use Rattle.bounds.specs.Made.{BoundsMade}
-use Rattle.text.specs.Slots.{number, written, InRange, Lacks, Free, Fits}
-use Rattle.text.specs.Reading.{three_numbers, cut}
-use Rattle.text.proofs.Laws.{none_some, three_written, three_exact}
+use Rattle.text.specs.Slots.{number, written, InRange, Free, Fits}
+use Rattle.text.specs.Reading.{three_numbers}
+use Rattle.text.proofs.Laws.{three_written, three_exact}
 use Rattle.heads.specs.declared.settings.PlayNumbers.{PlayNumbers}
 use Rattle.heads.specs.Words.{play_word}
 use Rattle.heads.specs.Fields.{after_word, play_of, play_after, play_in, play_formed_after, play_formed}
 use Rattle.heads.specs.Lines.{SpellsOutside, Only}
-use Rattle.text.specs.Lines.{Spells}
 use Rattle.heads.specs.Plays.{play_slots, NumbersWithinLimits, numbers_of, PlayLineFault, PlayAnswer}
-use Rattle.heads.proofs.Lines.{Reading, false_true, free_fits, after_found, same_made}
+use Rattle.heads.proofs.Lines.{Reading, free_fits, after_found, same_made}
 use Rattle.text.proofs.Forms.{fits_length, word_first}
 use Rattle.heads.specs.Heads.{ByFields}
 use Rattle.heads.proofs.Heads.{Faults, MadeWithin, head_answered}
@@ -36,14 +34,14 @@ play_exact : (gs : List (List ℕ)) (n : PlayNumbers) → play_in gs ≡ Some n 
 play_exact gs n e = after (after_word play_word gs) refl e
   where
     three : (fs : List (List ℕ)) (o : Option (ℕ × ℕ × ℕ)) → three_numbers fs ≡ o → play_of o ≡ Some n → WrittenBy n (play_word ∷ fs)
-    three fs None are h = absurd (none_some n h)
+    three fs None are h = cc
     three fs (Some p) are h =
         let x = three_exact fs p.0 p.1 p.2 are in
         let same : record { depth = p.0; insistence = p.1; steps = p.2 } ≡ n = cc in
         subst (λ m. WrittenBy m (play_word ∷ fs)) same ((tt, (x.1, (x.2, (x.3, tt)))), ap (λ hs. play_word ∷ hs) (sym x.0))
 
     after : (o : Option (List (List ℕ))) → after_word play_word gs ≡ o → play_after o ≡ Some n → WrittenBy n gs
-    after None is h = absurd (none_some n h)
+    after None is h = cc
     after (Some fs) is h = subst (WrittenBy n) (sym (after_found play_word gs fs is)) (three fs (three_numbers fs) refl h)
 
 -- fields that fit the slots of numbers have the form of a second line
@@ -57,7 +55,7 @@ play_form : (gs : List (List ℕ)) → AllByRecursion Free gs → play_formed gs
 play_form gs free e = after (after_word play_word gs) refl e
   where
     after : (o : Option (List (List ℕ))) → after_word play_word gs ≡ o → play_formed_after o ≡ true → (n : PlayNumbers) × Fits (play_slots n) gs
-    after None is h = absurd (false_true h)
+    after None is h = cc
     after (Some fs) is h =
         let whole = after_found play_word gs fs is in
         let here : AllByRecursion Free (play_word ∷ fs) = subst (AllByRecursion Free) whole free in

@@ -33,7 +33,7 @@ pub(crate) trait HeadLine: Copy {
 }
 
 // What is made of the numbers of a line, which is handed in without its line feed.
-pub(crate) fn named_by<H: HeadLine>(line: &[u8]) -> Result<H::Made, PlayFault>
+pub(crate) fn head_answer<H: HeadLine>(line: &[u8]) -> Result<H::Made, PlayFault>
     ensures answer_by_fields { ByFields H.form H.read H.making line.now result }
 {
     let fields = line_fields(line)

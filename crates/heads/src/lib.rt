@@ -12,7 +12,7 @@ mod keywords;
 mod making;
 mod settings;
 
-use crate::head_line::named_by;
+use crate::head_line::head_answer;
 use bounds::Bounds;
 use faults::PlayFault;
 pub use settings::Kind;
@@ -23,7 +23,7 @@ pub fn arithmetic_line(line: &[u8]) -> Result<Kind, PlayFault>
     ensures answer { ArithmeticAnswer (line.now ++ (10 ∷ [])) result }
     ensures only_answer { Only (ArithmeticAnswer (line.now ++ (10 ∷ []))) result }
 {
-    named_by::<Settings>(line)
+    head_answer::<Settings>(line)
 }
 
 /// The bounds of play that the second line names. The line is handed in without its line feed.
@@ -31,5 +31,5 @@ pub fn play_line(line: &[u8]) -> Result<Bounds, PlayFault>
     ensures answer { PlayAnswer (line.now ++ (10 ∷ [])) result }
     ensures only_answer { Only (PlayAnswer (line.now ++ (10 ∷ []))) result }
 {
-    named_by::<PlayNumbers>(line)
+    head_answer::<PlayNumbers>(line)
 }

@@ -23,7 +23,8 @@ impl HeadLine for Settings {
 
     // The word of the line and a kind, and as many fields as the kind has numbers.
     fn formed(fields: Fields) -> bool {
-        let Some((word, numbers)) = after_word(b"arith", fields).and_then(|kind| kind.split()) else {
+        let Some((word, numbers)) = after_word(b"arith", fields).and_then(|kind| kind.split())
+        else {
             return false;
         };
         match keyword_of::<KindWord>(word) {
