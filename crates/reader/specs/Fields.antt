@@ -5,7 +5,7 @@ use Rattle.std.specs.Option.{option_map}
 use Rattle.arithmetic.specs.declared.Operation.{Operation}
 use Rattle.arithmetic.specs.Words.{operation_word, operation_table}
 use Rattle.rows.specs.Sections.{section_word, section_table}
-use Rattle.text.specs.Reading.{keyword_of, number_of, word_of, one_number, two_numbers, three_numbers}
+use Rattle.text.specs.Reading.{keyword_of, number_of, word_of, one_value, one_number, two_numbers, three_numbers}
 use Rattle.rows.specs.declared.forms.TypeForm.{TypeForm}
 use Rattle.rows.specs.declared.forms.TypeForm.TheVariants.{Unit as UnitType, Int as IntType, Pair as PairType, Fun as FunType}
 use Rattle.rows.specs.declared.forms.MethodForm.{MethodForm}
@@ -26,12 +26,10 @@ use Rattle.reader.specs.Words.{type_word, type_table, method_word, method_table,
 
 -- a value made of two, or of three, numbers that are there
 abbrev pub of_two : {X : Type 0} → (ℕ → ℕ → X) → Option (ℕ × ℕ) → Option X
-of_two make None = None
-of_two make (Some p) = Some (make p.0 p.1)
+of_two make = option_map (λ p. make p.0 p.1)
 
 abbrev pub of_three : {X : Type 0} → (ℕ → ℕ → ℕ → X) → Option (ℕ × ℕ × ℕ) → Option X
-of_three make None = None
-of_three make (Some p) = Some (make p.0 p.1 p.2)
+of_three make = option_map (λ p. make p.0 p.1 p.2)
 
 -- a value where no field is left
 abbrev pub at_end : {X : Type 0} → X → List (List ℕ) → Option X
@@ -40,9 +38,27 @@ at_end x (f ∷ fs) = None
 
 -- the word of 32 bits that the only field is
 abbrev pub one_word : List (List ℕ) → Option ℤ
-one_word [] = None
-one_word (f ∷ []) = word_of f
-one_word (f ∷ g ∷ fs) = None
+one_word = one_value word_of
+
+-- what a keyword and its parts spell
+abbrev pub spelled_after : {K X : Type 0} → (K → List (List ℕ) → Option X) → Option K → List (List ℕ) → Option X
+spelled_after made None fs = None
+spelled_after made (Some k) fs = made k fs
+
+-- what fields spell, the first of them a keyword and the others its parts
+abbrev pub spelled_by : {K X : Type 0} → (K → List ℕ) → List K → (K → List (List ℕ) → Option X) → List (List ℕ) → Option X
+spelled_by spelled table made [] = None
+spelled_by spelled table made (w ∷ fs) = spelled_after made (keyword_of spelled table w) fs
+
+-- whether a keyword takes the fields after it as its parts
+abbrev pub formed_after : {K : Type 0} → (K → List (List ℕ) → Bool) → Option K → List (List ℕ) → Bool
+formed_after takes None fs = false
+formed_after takes (Some k) fs = takes k fs
+
+-- whether fields have a form, the first of them a keyword and the others its parts
+abbrev pub formed_by : {K : Type 0} → (K → List ℕ) → List K → (K → List (List ℕ) → Bool) → List (List ℕ) → Bool
+formed_by spelled table takes [] = false
+formed_by spelled table takes (w ∷ fs) = formed_after takes (keyword_of spelled table w) fs
 
 -- a type by the fields after its number
 abbrev pub type_parts : TypeWord → List (List ℕ) → Option TypeForm
@@ -51,13 +67,8 @@ type_parts Int fs = at_end IntType fs
 type_parts PairTypeWord fs = of_two PairType (two_numbers fs)
 type_parts Fun fs = of_two FunType (two_numbers fs)
 
-abbrev pub type_by : Option TypeWord → List (List ℕ) → Option TypeForm
-type_by None fs = None
-type_by (Some w) fs = type_parts w fs
-
 abbrev pub type_of : List (List ℕ) → Option TypeForm
-type_of [] = None
-type_of (w ∷ fs) = type_by (keyword_of type_word type_table w) fs
+type_of = spelled_by type_word type_table type_parts
 
 -- a method by the fields after its number
 abbrev pub method_parts : MethodWord → List (List ℕ) → Option MethodForm
@@ -65,22 +76,15 @@ method_parts Abstract fs = option_map AbstractMethod (one_number fs)
 method_parts Public fs = of_two PublicMethod (two_numbers fs)
 method_parts Private fs = of_two PrivateMethod (two_numbers fs)
 
-abbrev pub method_by : Option MethodWord → List (List ℕ) → Option MethodForm
-method_by None fs = None
-method_by (Some w) fs = method_parts w fs
-
 abbrev pub method_of : List (List ℕ) → Option MethodForm
-method_of [] = None
-method_of (w ∷ fs) = method_by (keyword_of method_word method_table w) fs
+method_of = spelled_by method_word method_table method_parts
 
 -- an operation by the fields after `op`
-abbrev pub operation_by : Option Operation → List (List ℕ) → Option TermForm
-operation_by None fs = None
-operation_by (Some o) fs = of_two (OpTerm o) (two_numbers fs)
+abbrev pub operation_parts : Operation → List (List ℕ) → Option TermForm
+operation_parts o fs = of_two (OpTerm o) (two_numbers fs)
 
 abbrev pub operation_of : List (List ℕ) → Option TermForm
-operation_of [] = None
-operation_of (o ∷ fs) = operation_by (keyword_of operation_word operation_table o) fs
+operation_of = spelled_by operation_word operation_table operation_parts
 
 -- a term by the fields after its number
 abbrev pub term_parts : TermWord → List (List ℕ) → Option TermForm
@@ -100,13 +104,8 @@ term_parts If fs = of_three IfTerm (three_numbers fs)
 term_parts Let fs = of_three LetTerm (three_numbers fs)
 term_parts Assert fs = option_map AssertTerm (one_number fs)
 
-abbrev pub term_by : Option TermWord → List (List ℕ) → Option TermForm
-term_by None fs = None
-term_by (Some w) fs = term_parts w fs
-
 abbrev pub term_of : List (List ℕ) → Option TermForm
-term_of [] = None
-term_of (w ∷ fs) = term_by (keyword_of term_word term_table w) fs
+term_of = spelled_by term_word term_table term_parts
 
 -- a row by the fields after its number
 abbrev pub row_parts : Section → ℕ → List (List ℕ) → Option Row
@@ -116,47 +115,39 @@ row_parts Methods n fs = option_map (MethodRow n) (method_of fs)
 row_parts Globals n fs = of_two (GlobalRow n) (two_numbers fs)
 row_parts Terms n fs = option_map (TermRow n) (term_of fs)
 
-abbrev pub row_by : Option Section → Option ℕ → List (List ℕ) → Option Row
-row_by None n fs = None
-row_by (Some s) None fs = None
-row_by (Some s) (Some n) fs = row_parts s n fs
+abbrev pub row_numbered : Section → Option ℕ → List (List ℕ) → Option Row
+row_numbered s None fs = None
+row_numbered s (Some n) fs = row_parts s n fs
+
+-- a row by the fields after its section's word
+abbrev pub section_parts : Section → List (List ℕ) → Option Row
+section_parts s [] = None
+section_parts s (n ∷ fs) = row_numbered s (number_of n) fs
 
 -- the row that the fields of a line spell
 abbrev pub row_of : List (List ℕ) → Option Row
-row_of [] = None
-row_of (s ∷ []) = None
-row_of (s ∷ n ∷ fs) = row_by (keyword_of section_word section_table s) (number_of n) fs
+row_of = spelled_by section_word section_table section_parts
 
--- whether the fields after a row's number have the form of a type, a method or a term
-abbrev pub type_formed_by : Option TypeWord → List (List ℕ) → Bool
-type_formed_by None fs = false
-type_formed_by (Some UnitTypeWord) fs = length fs == 0
-type_formed_by (Some Int) fs = length fs == 0
-type_formed_by (Some PairTypeWord) fs = length fs == 2
-type_formed_by (Some Fun) fs = length fs == 2
+-- whether a keyword has as many parts as there are fields after it
+abbrev pub type_counted : TypeWord → List (List ℕ) → Bool
+type_counted UnitTypeWord fs = length fs == 0
+type_counted Int fs = length fs == 0
+type_counted PairTypeWord fs = length fs == 2
+type_counted Fun fs = length fs == 2
 
-abbrev pub type_formed : List (List ℕ) → Bool
-type_formed [] = false
-type_formed (w ∷ fs) = type_formed_by (keyword_of type_word type_table w) fs
+abbrev pub method_counted : MethodWord → List (List ℕ) → Bool
+method_counted Abstract fs = length fs == 1
+method_counted Public fs = length fs == 2
+method_counted Private fs = length fs == 2
 
-abbrev pub method_formed_by : Option MethodWord → List (List ℕ) → Bool
-method_formed_by None fs = false
-method_formed_by (Some Abstract) fs = length fs == 1
-method_formed_by (Some Public) fs = length fs == 2
-method_formed_by (Some Private) fs = length fs == 2
+abbrev pub operation_counted : Operation → List (List ℕ) → Bool
+operation_counted o fs = length fs == 2
 
-abbrev pub method_formed : List (List ℕ) → Bool
-method_formed [] = false
-method_formed (w ∷ fs) = method_formed_by (keyword_of method_word method_table w) fs
-
-abbrev pub operation_formed_by : Option Operation → List (List ℕ) → Bool
-operation_formed_by None fs = false
-operation_formed_by (Some o) fs = length fs == 2
-
+-- whether the fields after `op` have the form of an operation
 abbrev pub operation_formed : List (List ℕ) → Bool
-operation_formed [] = false
-operation_formed (o ∷ fs) = operation_formed_by (keyword_of operation_word operation_table o) fs
+operation_formed = formed_by operation_word operation_table operation_counted
 
+-- whether a term's word has the fields after it as its parts
 abbrev pub parts_formed : TermWord → List (List ℕ) → Bool
 parts_formed UnitWord fs = length fs == 0
 parts_formed Num fs = length fs == 1
@@ -174,13 +165,15 @@ parts_formed If fs = length fs == 3
 parts_formed Let fs = length fs == 3
 parts_formed Assert fs = length fs == 1
 
-abbrev pub term_formed_by : Option TermWord → List (List ℕ) → Bool
-term_formed_by None fs = false
-term_formed_by (Some w) fs = parts_formed w fs
+-- whether the fields after a row's number have the form of a type, a method or a term
+abbrev pub type_formed : List (List ℕ) → Bool
+type_formed = formed_by type_word type_table type_counted
+
+abbrev pub method_formed : List (List ℕ) → Bool
+method_formed = formed_by method_word method_table method_counted
 
 abbrev pub term_formed : List (List ℕ) → Bool
-term_formed [] = false
-term_formed (w ∷ fs) = term_formed_by (keyword_of term_word term_table w) fs
+term_formed = formed_by term_word term_table parts_formed
 
 -- whether the fields after a row's number have the form of a row of the section
 abbrev pub section_formed : Section → List (List ℕ) → Bool
@@ -190,12 +183,11 @@ section_formed Methods fs = method_formed fs
 section_formed Globals fs = length fs == 2
 section_formed Terms fs = term_formed fs
 
-abbrev pub formed_by : Option Section → List (List ℕ) → Bool
-formed_by None fs = false
-formed_by (Some s) fs = section_formed s fs
+-- whether the fields after a section's word have the form of a number and what follows it
+abbrev pub numbered_formed : Section → List (List ℕ) → Bool
+numbered_formed s [] = false
+numbered_formed s (n ∷ fs) = section_formed s fs
 
 -- whether the fields of a line have a form
 abbrev pub has_form : List (List ℕ) → Bool
-has_form [] = false
-has_form (s ∷ []) = false
-has_form (s ∷ n ∷ fs) = formed_by (keyword_of section_word section_table s) fs
+has_form = formed_by section_word section_table numbered_formed

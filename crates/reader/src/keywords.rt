@@ -2,10 +2,10 @@
 ghost use Rattle.reader.specs.Words.{method_table, method_word, term_table, term_word, type_table, type_word};
 ghost use Rattle.std.proofs.Common.{rules};
 
-use text::{Keyword, spells};
+use text::Keyword;
 
 /// What a type line says of the type.
-#[derive(Clone, Copy)]
+#[derive(Clone, Copy, PartialEq, Eq, Debug)]
 pub enum TypeWord {
     Unit,
     Int,
@@ -14,7 +14,7 @@ pub enum TypeWord {
 }
 
 /// What a method line says of the method.
-#[derive(Clone, Copy)]
+#[derive(Clone, Copy, PartialEq, Eq, Debug)]
 pub enum MethodWord {
     Abstract,
     Public,
@@ -22,7 +22,7 @@ pub enum MethodWord {
 }
 
 /// What a term line says of the term.
-#[derive(Clone, Copy)]
+#[derive(Clone, Copy, PartialEq, Eq, Debug)]
 pub enum TermWord {
     Unit,
     Num,
@@ -48,22 +48,18 @@ impl Keyword for TypeWord {
 
     ghost found = { Prim.search rules };
 
-    fn count() -> usize {
-        4
+    // All words of types, in the order of the table.
+    fn all() -> &'static [TypeWord] {
+        &[TypeWord::Unit, TypeWord::Int, TypeWord::Pair, TypeWord::Fun]
     }
 
-    fn at(place: usize) -> Option<TypeWord> {
-        [TypeWord::Unit, TypeWord::Int, TypeWord::Pair, TypeWord::Fun]
-            .get(place)
-            .copied()
-    }
-
-    fn is_spelled(self, field: &[u8]) -> bool {
+    // Each word by its bytes.
+    fn spelling(self) -> &'static [u8] {
         match self {
-            TypeWord::Unit => spells(b"unit", field),
-            TypeWord::Int => spells(b"int", field),
-            TypeWord::Pair => spells(b"pair", field),
-            TypeWord::Fun => spells(b"fun", field),
+            TypeWord::Unit => b"unit",
+            TypeWord::Int => b"int",
+            TypeWord::Pair => b"pair",
+            TypeWord::Fun => b"fun",
         }
     }
 }
@@ -75,25 +71,21 @@ impl Keyword for MethodWord {
 
     ghost found = { Prim.search rules };
 
-    fn count() -> usize {
-        3
-    }
-
-    fn at(place: usize) -> Option<MethodWord> {
-        [
+    // All words of methods, in the order of the table.
+    fn all() -> &'static [MethodWord] {
+        &[
             MethodWord::Abstract,
             MethodWord::Public,
             MethodWord::Private,
         ]
-        .get(place)
-        .copied()
     }
 
-    fn is_spelled(self, field: &[u8]) -> bool {
+    // Each word by its bytes.
+    fn spelling(self) -> &'static [u8] {
         match self {
-            MethodWord::Abstract => spells(b"abstract", field),
-            MethodWord::Public => spells(b"public", field),
-            MethodWord::Private => spells(b"private", field),
+            MethodWord::Abstract => b"abstract",
+            MethodWord::Public => b"public",
+            MethodWord::Private => b"private",
         }
     }
 }
@@ -105,12 +97,9 @@ impl Keyword for TermWord {
 
     ghost found = { Prim.search rules };
 
-    fn count() -> usize {
-        15
-    }
-
-    fn at(place: usize) -> Option<TermWord> {
-        [
+    // All words of terms, in the order of the table.
+    fn all() -> &'static [TermWord] {
+        &[
             TermWord::Unit,
             TermWord::Num,
             TermWord::Var,
@@ -127,27 +116,26 @@ impl Keyword for TermWord {
             TermWord::Let,
             TermWord::Assert,
         ]
-        .get(place)
-        .copied()
     }
 
-    fn is_spelled(self, field: &[u8]) -> bool {
+    // Each word by its bytes.
+    fn spelling(self) -> &'static [u8] {
         match self {
-            TermWord::Unit => spells(b"unit", field),
-            TermWord::Num => spells(b"num", field),
-            TermWord::Var => spells(b"var", field),
-            TermWord::Meth => spells(b"meth", field),
-            TermWord::Get => spells(b"get", field),
-            TermWord::Lam => spells(b"lam", field),
-            TermWord::Set => spells(b"set", field),
-            TermWord::Op => spells(b"op", field),
-            TermWord::Pair => spells(b"pair", field),
-            TermWord::Fst => spells(b"fst", field),
-            TermWord::Snd => spells(b"snd", field),
-            TermWord::App => spells(b"app", field),
-            TermWord::If => spells(b"if", field),
-            TermWord::Let => spells(b"let", field),
-            TermWord::Assert => spells(b"assert", field),
+            TermWord::Unit => b"unit",
+            TermWord::Num => b"num",
+            TermWord::Var => b"var",
+            TermWord::Meth => b"meth",
+            TermWord::Get => b"get",
+            TermWord::Lam => b"lam",
+            TermWord::Set => b"set",
+            TermWord::Op => b"op",
+            TermWord::Pair => b"pair",
+            TermWord::Fst => b"fst",
+            TermWord::Snd => b"snd",
+            TermWord::App => b"app",
+            TermWord::If => b"if",
+            TermWord::Let => b"let",
+            TermWord::Assert => b"assert",
         }
     }
 }

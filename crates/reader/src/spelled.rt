@@ -8,9 +8,9 @@ ghost use Rattle.std.specs.Prelude.{◌≡◌, true, false, ◌⊎◌, List, [],
 ghost use Rattle.text.specs.Reading.{cut};
 ghost use Rattle.text.specs.Slots.{Lacks};
 
-use super::forms::{formed, row_of};
+use super::forms::{form_of, has_form};
 use faults::TextFault;
-use rows::{Row, Tally};
+use rows::{Row, Section, Tally};
 use text::Fields;
 
 // The row that a line spells, which is handed in without its line feed.
@@ -18,13 +18,10 @@ fn spelled_row(line: &[u8]) -> Result<Row, TextFault>
     ensures by_fields { MatchResult result (λ row. (has_form (cut line.now) ≡ true) × (row_of (cut line.now) ≡ Some row)) (λ f. ((f ≡ Form) × (has_form (cut line.now) ≡ false)) ⊎ ((f ≡ Number) × (has_form (cut line.now) ≡ true) × (row_of (cut line.now) ≡ None))) }
 {
     let fields = Fields::of(line);
-    if !formed(fields) {
+    if !has_form::<Section>(fields) {
         return Err(TextFault::Form);
     }
-    match row_of(fields) {
-        Some(row) => Ok(row),
-        None => Err(TextFault::Number),
-    }
+    form_of::<Section>(fields).ok_or(TextFault::Number)
 }
 
 // A row without fault, and the tally of the rows up to it.
