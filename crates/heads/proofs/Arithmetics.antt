@@ -25,7 +25,7 @@ use Rattle.heads.specs.Arithmetics.{settings_slots, SettingsWithinLimits, settin
 use Rattle.heads.proofs.Lines.{Reading, free_fits, after_found, same_made}
 use Rattle.text.proofs.Forms.{words_free, fits_length, word_first}
 use Rattle.heads.specs.Heads.{ByFields}
-use Rattle.heads.proofs.Heads.{Faults, MadeWithin, head_answered}
+use Rattle.heads.proofs.Heads.{Faults, MadeWithin, fields_allowed, only_allowed}
 
 -- the fields of settings spell them
 settings_written : (s : Settings) → AllByRecursion InRange (settings_slots s) → settings_in (map written (settings_slots s)) ≡ Some s
@@ -193,9 +193,13 @@ settings_faults = record { of_text = λ line fault h. h; text_of = λ line fault
     kinds line Bounds h = absurd h
     kinds line SettingsFault h = inr (refl, h)
 
--- the answer by the fields of a first line is allowed, and the only one
-pub arithmetic_answered : (body : List ℕ) (r : Result Kind PlayFault) → ByFields settings_formed settings_in Made body r → ArithmeticAnswer (body ++ (10 ∷ [])) r × Only (ArithmeticAnswer (body ++ (10 ∷ []))) r
-arithmetic_answered = head_answered settings_reading settings_faults settings_of same_kind Made makes
+-- every allowed answer is this one
+pub only_arithmetic : (body : List ℕ) (r : Result Kind PlayFault) → ArithmeticAnswer (body ++ (10 ∷ [])) r → Only (ArithmeticAnswer (body ++ (10 ∷ []))) r
+only_arithmetic = only_allowed settings_reading settings_faults settings_of same_kind
+
+-- the answer by the fields of a first line is allowed
+pub arithmetic_allowed : (body : List ℕ) (r : Result Kind PlayFault) → ByFields settings_formed settings_in Made body r → ArithmeticAnswer (body ++ (10 ∷ [])) r
+arithmetic_allowed = fields_allowed settings_reading settings_faults settings_of same_kind Made makes
   where
     makes : (s : Settings) (r : Result Kind PlayFault) → Made s r → MadeWithin SettingsWithinLimits SettingsFault settings_of s r
     makes s (Ok kind) h = h

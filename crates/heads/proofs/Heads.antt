@@ -50,22 +50,20 @@ module _ {X Y : Type 0} {slots : X → List Slot} {formed : List (List ℕ) → 
     made x (Ok y) e h = record { spelled = subst (Spells slots (line body)) (sym h.1) (spells_read _ _ _ reading body x e); within = subst Within (sym h.1) h.0 }
     made x (Err fault) e h = subst (Least (holds (line body))) (sym h.1) (outside_least x (spells_read _ _ _ reading body x e) h.0)
 
-  pub head_answered : (Made : X → Result Y PlayFault → Type 0) → ((x : X) (r : Result Y PlayFault) → Made x r → MadeWithin Within outside of x r) → (body : List ℕ) (r : Result Y PlayFault) → ByFields formed read Made body r → Allowed body r × Only (Allowed body) r
-  head_answered Made makes body r told = (allowed, only)
-    where
-      allowed : Allowed body r
-      allowed =
-          ⊎_elim (λ t. subst (Allowed body) (sym t.1) (least_form (holds (line body)) (faults.of_text (line body) Form (λ h. t.0 (formed_fields _ _ _ reading body h)))))
-          (⊎_elim
-          (λ t.
-          subst (Allowed body) (sym t.2)
-          (least_number (holds (line body)) (faults.of_text (line body) Number (spells_none _ _ _ reading body t.1))
-          (λ unformed. faults.text_of (line body) Form unformed (formed_line _ _ _ reading body t.0))))
-          (λ t. made body t.0 r t.1 (makes t.0 r t.2)))
-          told
+  -- there is one allowed answer at most
+  pub only_allowed : (body : List ℕ) (r : Result Y PlayFault) → Allowed body r → Only (Allowed body) r
+  only_allowed body =
+      one_answer (λ y. SpellsWithin slots Within (line body) (of y)) (holds (line body))
+      (λ y z h k. same y z (spells_once _ _ _ reading body (of y) (of z) h.spelled k.spelled))
+      (λ y fault h k. (spelled_fault body (of y) h.spelled fault k).1 h.within)
 
-      only : Only (Allowed body) r
-      only =
-          one_answer (λ y. SpellsWithin slots Within (line body) (of y)) (holds (line body))
-          (λ y z h k. same y z (spells_once _ _ _ reading body (of y) (of z) h.spelled k.spelled))
-          (λ y fault h k. (spelled_fault body (of y) h.spelled fault k).1 h.within) r allowed
+  -- the answer by the fields is allowed
+  pub fields_allowed : (Made : X → Result Y PlayFault → Type 0) → ((x : X) (r : Result Y PlayFault) → Made x r → MadeWithin Within outside of x r) → (body : List ℕ) (r : Result Y PlayFault) → ByFields formed read Made body r → Allowed body r
+  fields_allowed Made makes body r =
+      ⊎_elim (λ t. subst (Allowed body) (sym t.1) (least_form (holds (line body)) (faults.of_text (line body) Form (λ h. t.0 (formed_fields _ _ _ reading body h)))))
+      (⊎_elim
+      (λ t.
+      subst (Allowed body) (sym t.2)
+      (least_number (holds (line body)) (faults.of_text (line body) Number (spells_none _ _ _ reading body t.1))
+      (λ unformed. faults.text_of (line body) Form unformed (formed_line _ _ _ reading body t.0))))
+      (λ t. made body t.0 r t.1 (makes t.0 r t.2)))

@@ -19,7 +19,7 @@ use Rattle.heads.specs.Plays.{play_slots, NumbersWithinLimits, numbers_of, PlayL
 use Rattle.heads.proofs.Lines.{Reading, free_fits, after_found, same_made}
 use Rattle.text.proofs.Forms.{fits_length, word_first}
 use Rattle.heads.specs.Heads.{ByFields}
-use Rattle.heads.proofs.Heads.{Faults, MadeWithin, head_answered}
+use Rattle.heads.proofs.Heads.{Faults, MadeWithin, fields_allowed, only_allowed}
 
 -- the fields of numbers spell them
 play_written : (n : PlayNumbers) → AllByRecursion InRange (play_slots n) → play_in (map written (play_slots n)) ≡ Some n
@@ -94,9 +94,13 @@ play_faults = record { of_text = λ line fault h. h; text_of = λ line fault h. 
 abbrev pub PlayMade : PlayNumbers → Result Bounds PlayFault → Type 0
 PlayMade numbers r = BoundsMade numbers.depth numbers.insistence numbers.steps r
 
--- the answer by the fields of a second line is allowed, and the only one
-pub play_answered : (body : List ℕ) (r : Result Bounds PlayFault) → ByFields play_formed play_in PlayMade body r → PlayAnswer (body ++ (10 ∷ [])) r × Only (PlayAnswer (body ++ (10 ∷ []))) r
-play_answered = head_answered play_reading play_faults numbers_of same_bounds PlayMade makes
+-- every allowed answer is this one
+pub only_play : (body : List ℕ) (r : Result Bounds PlayFault) → PlayAnswer (body ++ (10 ∷ [])) r → Only (PlayAnswer (body ++ (10 ∷ []))) r
+only_play = only_allowed play_reading play_faults numbers_of same_bounds
+
+-- the answer by the fields of a second line is allowed
+pub play_allowed : (body : List ℕ) (r : Result Bounds PlayFault) → ByFields play_formed play_in PlayMade body r → PlayAnswer (body ++ (10 ∷ [])) r
+play_allowed = fields_allowed play_reading play_faults numbers_of same_bounds PlayMade makes
   where
     makes : (n : PlayNumbers) (r : Result Bounds PlayFault) → PlayMade n r → MadeWithin NumbersWithinLimits BoundsFault numbers_of n r
     makes n (Ok bounds) h = (h.0, λ i. record { depth = h.1.same_depth i; insistence = h.1.same_insistence i; steps = h.1.same_steps i })
