@@ -1,9 +1,7 @@
 -- An input has one answer. Assumes nothing.
-use Rattle.std.proofs.Common.{◌≡◌, ℕ, ◌<◌, List, [], ◌∷◌, ◌++◌, length, Ok, Err, Result, sym, refl, ap, ◌∙◌, subst, inl, inr, ⊎_elim, arith, length-append}
+use Rattle.std.proofs.Common.{◌≡◌, ℕ, ◌<◌, List, [], ◌∷◌, ◌++◌, length, Ok, Err, Result, sym, ap, ◌∙◌, subst, inl, inr, ⊎_elim, arith, length-append}
 use Rattle.faults.specs.declared.Placed.{Placed}
-use Rattle.faults.specs.declared.TextFault.TheVariants.{Form}
 use Rattle.faults.specs.declared.PlayFault.{PlayFault}
-use Rattle.faults.specs.declared.PlayFault.TheVariants.{Text}
 use Rattle.text.specs.Slots.{Lacks}
 use Rattle.reader.proofs.Unique.{first_feed, has_feed, one_answer}
 use Rattle.heads.specs.Lines as heads

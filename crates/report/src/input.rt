@@ -50,10 +50,8 @@ fn after_head<T: Drop, F: FnOnce(&[u8]) -> Result<T, PlayFault>>(
         place,
         fault: formless,
     })?;
-    match line_reader(line) {
-        Ok(_) => Ok(rest),
-        Err(fault) => Err(Placed { place, fault }),
-    }
+    line_reader(line).map_err(|fault| Placed { place, fault })?;
+    Ok(rest)
 }
 
 // The answer to a whole input, over rows enough for every library.

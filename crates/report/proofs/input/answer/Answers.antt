@@ -1,8 +1,8 @@
-use Rattle.std.proofs.Common.{◌≡◌, ℕ, List, [], ◌∷◌, ◌++◌, Result, Err, rules, subst, sym}
+use Rattle.std.proofs.Common.{rules}
 use Rattle.std.proofs.lemmas.Result.{err_from_is_err_and}
 use Rattle.heads.specs.Arithmetics.{ArithmeticAnswer}
 use Rattle.heads.specs.Plays.{PlayAnswer}
-use Rattle.report.specs.Input.{InputAnswer, LibraryAnswer, PlayAndLibrary}
+use Rattle.report.specs.Input.{LibraryAnswer, PlayAndLibrary}
 use Rattle.report.proofs.Inputs.{only_input, head_refused, head_passed}
 use Rattle.report.proofs.input.answer.Goals as goal
 
