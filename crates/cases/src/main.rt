@@ -17,12 +17,7 @@ fn into_rows(rt: &HostRuntime, text: &[u8], room: usize) -> anyhow::Result<()> {
         return Err(anyhow!("too few rows to try"));
     }
     let answer = read(text, &mut rows[0..room]);
-    let mut stayed: u32 = 0;
-    for row in rows.iter() {
-        if *row == other {
-            stayed = stayed.saturating_add(1);
-        }
-    }
+    let stayed = rows.iter().filter(|row| **row == other).count();
     match answer {
         Ok(counts) => {
             let terms = counts.terms;
