@@ -1,5 +1,5 @@
 -- What the fields of a first line tell of the line, and the one answer to it. Assumes nothing.
-use Rattle.std.proofs.Common.{◌≡◌, ℕ, ◌≤◌, true, List, [], ◌∷◌, ◌++◌, map, length, ℤ, pos, decimal, Some, None, Ok, Err, Option, Result, sym, refl, ap, ◌∙◌, subst, inl, inr, ◌⊎◌, w32, SFits, eq-eqb, true-eqb}
+use Rattle.std.proofs.Common.{◌≡◌, ℕ, ◌≤◌, true, List, [], ◌∷◌, ◌++◌, map, length, ℤ, pos, decimal, Some, None, Ok, Err, Option, Result, sym, refl, ap, ◌∙◌, subst, arith, inl, inr, ◌⊎◌, w32, SFits, eq-eqb, true-eqb}
 use denote.Struct.Props.{props}
 use Rattle.std.specs.Fmt.{signed_decimal}
 use Rattle.std.specs.List.{AllByRecursion}
@@ -34,19 +34,10 @@ settings_written (CounterNumbers top lo hi) h = rw (number_written top h.1.1.0, 
 
 -- values that are all read are each read
 both_say : {A B : Type 0} (x : Option A) (y : Option B) (p : A × B) → both x y ≡ Some p → (x ≡ Some p.0) × (y ≡ Some p.1)
-both_say None y p e = cc
-both_say (Some a) None p e = cc
-both_say {A = A} {B = B} (Some a) (Some b) p e =
-    let d : ◌≡◌ {A = A × B} (a, b) p = cc in
-    (ap (λ (t : A × B). Some t.0) d, ap (λ (t : A × B). Some t.1) d)
+both_say x y p e = grind arith
 
 all_say : {A B C : Type 0} (x : Option A) (y : Option B) (z : Option C) (p : A × B × C) → all_three x y z ≡ Some p → (x ≡ Some p.0) × (y ≡ Some p.1) × (z ≡ Some p.2)
-all_say None y z p e = cc
-all_say (Some a) None z p e = cc
-all_say (Some a) (Some b) None p e = cc
-all_say {A = A} {B = B} {C = C} (Some a) (Some b) (Some c) p e =
-    let d : ◌≡◌ {A = A × B × C} (a, b, c) p = cc in
-    (ap (λ (t : A × B × C). Some t.0) d, ap (λ (t : A × B × C). Some t.1) d, ap (λ (t : A × B × C). Some t.2) d)
+all_say x y z p e = grind arith
 
 -- the two words that are read have 32 bits, and are written by the two fields
 words_exact : (fs : List (List ℕ)) (p : ℤ × ℤ) → two_words fs ≡ Some p → (fs ≡ signed_decimal p.0 ∷ signed_decimal p.1 ∷ []) × SFits w32 p.0 × SFits w32 p.1

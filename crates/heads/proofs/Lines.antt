@@ -8,7 +8,7 @@ use Rattle.faults.specs.declared.TextFault.{TextFault}
 use Rattle.faults.specs.declared.TextFault.TheVariants.{Form, Number, Order, Reference, Limit, Repeat}
 use Rattle.text.specs.Slots.{Slot, literal, number, word, written, InRange, Lacks, Free, Fits, commas}
 use Rattle.text.specs.Reading.{cut}
-use Rattle.text.proofs.Laws.{none_some, cut_free, commas_cut}
+use Rattle.text.proofs.Laws.{cut_free, commas_cut}
 use Rattle.text.proofs.Forms.{word_first, words_free, fits_free, written_fits, commas_lack, cut_fields}
 use Rattle.heads.specs.Fields.{after_word}
 use Rattle.heads.specs.Heads.{FieldsFormed}
@@ -109,7 +109,7 @@ module _ {X : Type 0} (slots : X → List Slot) (formed : List (List ℕ) → Bo
 
   -- nothing is spelled where nothing is read
   pub spells_none : read (cut body) ≡ None → (x : X) → Spells slots line x → ⊥
-  spells_none e x h = none_some x (sym e ∙ read_spells x h)
+  spells_none e x h = let read = read_spells x h in cc
 
 -- values that are made of the same data under facts that have one proof at most are the same
 pub same_made : {V Y : Type 0} (P : V → Type 0) → ((v : V) → IsProp (P v)) → (make : (v : V) → P v → Y) (v w : V) (p : P v) (q : P w) → v ≡ w → make v p ≡ make w q
