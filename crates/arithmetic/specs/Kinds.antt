@@ -1,5 +1,6 @@
 -- The kinds of arithmetic, as mathematics on the integers. Assumes nothing.
-use Rattle.std.specs.Prelude.{ℕ, ◌+◌, ◌-◌, ◌^◌, Bool, false, cond, ◌&&◌, ℤ, pos, negsuc, ◌+ℤ◌, ◌-ℤ◌, ◌*ℤ◌, ◌==◌, int_le, int_lt, unsigned_abs}
+use Rattle.std.specs.Prelude.{ℕ, ◌+◌, ◌-◌, ◌^◌, Bool, cond, ◌&&◌, ℤ, pos, negsuc, ◌+ℤ◌, ◌-ℤ◌, ◌*ℤ◌, int_le, int_lt, unsigned_abs}
+use Rattle.std.specs.Ordering.{int_eq}
 use Rattle.std.specs.Int.{int_max, int_min, int_wrap, w32}
 use Rattle.arithmetic.specs.declared.Operation.{Operation}
 use Rattle.arithmetic.specs.declared.Operation.TheVariants.{Add, Sub, Mul, Less, Equal}
@@ -8,13 +9,6 @@ use Rattle.arithmetic.specs.Meaning.{Meaning, WordList}
 -- whether z is one of the integers from lo to hi
 abbrev pub between : ℤ → ℤ → ℤ → Bool
 between lo hi z = int_le lo z && int_le z hi
-
--- whether two integers are the same
-abbrev pub same : ℤ → ℤ → Bool
-same (pos a) (pos b) = a == b
-same (pos a) (negsuc b) = false
-same (negsuc a) (pos b) = false
-same (negsuc a) (negsuc b) = a == b
 
 -- the answer to a question as a word
 abbrev pub one_or_zero : Bool → ℤ
@@ -37,14 +31,14 @@ word_result Add x y = int_wrap w32 (x +ℤ y)
 word_result Sub x y = int_wrap w32 (x -ℤ y)
 word_result Mul x y = int_wrap w32 (x *ℤ y)
 word_result Less x y = one_or_zero (int_lt x y)
-word_result Equal x y = one_or_zero (same x y)
+word_result Equal x y = one_or_zero (int_eq x y)
 
 -- a word arithmetic whose host may say lo to hi
 abbrev pub word_meaning : ℤ → ℤ → Meaning
 word_meaning lo hi = record {
   lawful = between least_word greatest_word;
   result = word_result;
-  zero = λ z. same z (pos 0);
+  zero = λ z. int_eq z (pos 0);
   may_say = between lo hi;
 }
 
@@ -54,13 +48,13 @@ counter_result top Add x y = int_min (x +ℤ y) top
 counter_result top Sub x y = int_max (x -ℤ y) (pos 0)
 counter_result top Mul x y = int_min (x *ℤ y) top
 counter_result top Less x y = one_or_zero (int_lt x y)
-counter_result top Equal x y = one_or_zero (same x y)
+counter_result top Equal x y = one_or_zero (int_eq x y)
 
 -- a counter from 0 to top whose host may say lo to hi
 abbrev pub counter_meaning : ℕ → ℤ → ℤ → Meaning
 counter_meaning top lo hi = record {
   lawful = between (pos 0) (pos top);
   result = counter_result (pos top);
-  zero = λ z. same z (pos 0);
+  zero = λ z. int_eq z (pos 0);
   may_say = between lo hi;
 }

@@ -1,15 +1,14 @@
 //! The counter arithmetic: the words from 0 to a top, where results stop at both ends.
-ghost use Rattle.std.specs.Prelude.{int_lt, refl};
-ghost use Rattle.arithmetic.specs.Kinds.{ascending, counter_meaning, same};
+ghost use Rattle.std.specs.Prelude.{refl};
+ghost use Rattle.arithmetic.specs.Kinds.{ascending, counter_meaning};
 ghost use Rattle.arithmetic.specs.Made.{counter_made};
 ghost use Rattle.std.proofs.Common.{arith};
 ghost use Rattle.std.proofs.lemmas.Int.{ints};
-ghost use Rattle.arithmetic.specs.Wraps.{one_or_zero_is, zero_is};
-ghost use Rattle.arithmetic.specs.Counts.{counts_fit, counter_result_stays};
-ghost use Rattle.arithmetic.specs.Ranges.{within, ascending_listed};
+ghost use Rattle.arithmetic.specs.Counts.{counter_result_stays};
+ghost use Rattle.arithmetic.specs.Ranges.{ascending_listed};
 
 use crate::kinds::Counter;
-use crate::{Arithmetic, HostWords, Operation, range};
+use crate::{Arithmetic, HostRange, HostWords, Operation};
 use faults::PlayFault;
 
 impl Counter {
@@ -17,45 +16,34 @@ impl Counter {
     pub fn new(top: u32, lo: i32, hi: i32) -> Result<Counter, PlayFault>
         ensures made_within_limits_only { counter_made top lo hi result }
     {
-        if 1 <= top && top <= 65535 && 0 <= lo && hi <= top as i32 && range::listable(lo, hi) {
-            Ok(Counter {
-                top: top as u16,
-                lo,
-                hi,
-            })
-        } else {
-            Err(PlayFault::Settings)
+        let host = HostRange::new(lo, hi)?;
+        match u16::try_from(top) {
+            Ok(top) if 1 <= top && 0 <= lo && hi <= i32::from(top) => Ok(Counter { top, host }),
+            _ => Err(PlayFault::Settings),
         }
     }
 }
 
 impl Arithmetic for Counter {
-    ghost meaning = { λ k. counter_meaning k.top k.lo k.hi };
+    ghost meaning = { λ k. counter_meaning k.top k.host.lo k.host.hi };
 
-    ghost closed = { λ a.
-        record {
-          lawful_fits = λ z h. counts_fit a.top z a.limits.1 h;
-          result_lawful = λ o x y h k. counter_result_stays a.top o x y a.limits.0 h k;
-          less_one_or_zero = λ x y _ _. one_or_zero_is (int_lt x y);
-          equal_one_or_zero = λ x y _ _. one_or_zero_is (same x y);
-          zero_lawful = λ z h. rw (zero_is z h) (Prim.grind (arith, ints));
-          may_say_lawful = λ z h. let w = within a.lo a.hi z h in Prim.grind (arith, ints);
-        } };
+    ghost closed = { λ a. Prim.grind (arith, ints, counter_result_stays) };
 
     // The result of an operation on two words from 0 to the top, and none on others.
     fn operate(&self, operation: Operation, x: i32, y: i32) -> Option<i32> {
         if !self.lawful(x) || !self.lawful(y) {
             return None;
         }
-        let top = self.top as i32;
-        let product = x as i64 * y as i64;
+        let top = i32::from(self.top);
+        // A product that leaves 32 bits is past the top as well.
+        let product = x.saturating_mul(y);
         Some(match operation {
             Operation::Add if x + y > top => top,
             Operation::Add => x + y,
             Operation::Sub if x < y => 0,
             Operation::Sub => x - y,
-            Operation::Mul if product > top as i64 => top,
-            Operation::Mul => product as i32,
+            Operation::Mul if product > top => top,
+            Operation::Mul => product,
             Operation::Less if x < y => 1,
             Operation::Equal if x == y => 1,
             Operation::Less | Operation::Equal => 0,
@@ -64,32 +52,33 @@ impl Arithmetic for Counter {
 
     // Lawful are 0 to the top.
     fn lawful(&self, x: i32) -> bool {
-        0 <= x && x <= self.top as i32
+        (0..=i32::from(self.top)).contains(&x)
     }
 
-    // Only 0 is zero.
+    // Only 0 is zero: each kind says so itself, since the trait leaves open which lawful words are zero.
     fn zero(&self, x: i32) -> bool {
         x == 0
     }
 
-    // The host may say `lo` to `hi`.
+    // The host may say the words of its range.
     fn may_say(&self, x: i32) -> bool {
-        range::holds(self.lo, self.hi, x)
+        self.host.holds(x)
     }
 }
 
 impl HostWords for Counter {
-    ghost list = { λ k. ascending k.lo k.hi };
+    ghost list = { λ k. ascending k.host.lo k.host.hi };
 
-    ghost listed = { λ a. ascending_listed a.lo a.hi a.limits.4 (counter_meaning a.top a.lo a.hi) (λ z. refl) };
+    // The range answers both calls. Each kind passes them on: an impl for all kinds with a range would keep others from lists of their own.
+    ghost listed = { λ a. ascending_listed _ _ a.host.limits _ (λ z. refl) };
 
-    // The number of words from `lo` to `hi`.
+    // The number of words of the host's range.
     fn list_length(&self) -> u16 {
-        range::count(self.lo, self.hi)
+        self.host.count()
     }
 
-    // The word that stands `place` places after `lo`.
+    // The word that stands `place` places after the least of the range.
     fn word_at(&self, place: u16) -> Option<i32> {
-        range::at(self.lo, self.hi, place)
+        self.host.at(place)
     }
 }

@@ -13,6 +13,7 @@ mod word;
 mod words;
 
 pub use kinds::{Counter, Word};
+pub use range::HostRange;
 
 /// An operation on two words.
 #[derive(Clone, Copy, PartialEq, Eq, Debug)]

@@ -1,14 +1,14 @@
 //! The word arithmetic: every word is lawful, and results keep their low 32 bits.
-ghost use Rattle.std.specs.Prelude.{int_lt, refl};
-ghost use Rattle.arithmetic.specs.Kinds.{ascending, word_meaning, same};
+ghost use Rattle.std.specs.Prelude.{refl};
+ghost use Rattle.arithmetic.specs.Kinds.{ascending, word_meaning};
 ghost use Rattle.arithmetic.specs.Made.{word_made};
 ghost use Rattle.std.proofs.Common.{arith};
 ghost use Rattle.std.proofs.lemmas.Int.{ints};
-ghost use Rattle.arithmetic.specs.Wraps.{word_fits, word_result_stays, one_or_zero_is, zero_is};
-ghost use Rattle.arithmetic.specs.Ranges.{within, ascending_listed};
+ghost use Rattle.arithmetic.specs.Wraps.{word_result_stays};
+ghost use Rattle.arithmetic.specs.Ranges.{ascending_listed};
 
 use crate::kinds::Word;
-use crate::{Arithmetic, HostWords, Operation, range};
+use crate::{Arithmetic, HostRange, HostWords, Operation};
 use faults::PlayFault;
 
 impl Word {
@@ -16,28 +16,18 @@ impl Word {
     pub fn new(lo: i32, hi: i32) -> Result<Word, PlayFault>
         ensures made_within_limits_only { word_made lo hi result }
     {
-        if range::listable(lo, hi) {
-            Ok(Word { lo, hi })
-        } else {
-            Err(PlayFault::Settings)
-        }
+        let host = HostRange::new(lo, hi)?;
+        Ok(Word { host })
     }
 }
 
 impl Arithmetic for Word {
-    ghost meaning = { λ w. word_meaning w.lo w.hi };
+    ghost meaning = { λ w. word_meaning w.host.lo w.host.hi };
 
-    ghost closed = { λ a.
-        record {
-          lawful_fits = word_fits;
-          result_lawful = λ o x y _ _. word_result_stays o x y;
-          less_one_or_zero = λ x y _ _. one_or_zero_is (int_lt x y);
-          equal_one_or_zero = λ x y _ _. one_or_zero_is (same x y);
-          zero_lawful = λ z h. rw (zero_is z h);
-          may_say_lawful = λ z h. let w = within a.lo a.hi z h in Prim.grind (arith, ints);
-        } };
+    ghost closed = { λ a. Prim.grind (arith, ints, word_result_stays) };
 
     // The result of an operation, which every two words have.
+    #[tactic(auto, using(std::proofs::lemmas::Int::wraps, crate::specs::Wraps::fits_word))]
     fn operate(&self, operation: Operation, x: i32, y: i32) -> Option<i32> {
         Some(match operation {
             Operation::Add => x.wrapping_add(y),
@@ -54,29 +44,30 @@ impl Arithmetic for Word {
         true
     }
 
-    // Only 0 is zero.
+    // Only 0 is zero: each kind says so itself, since the trait leaves open which lawful words are zero.
     fn zero(&self, x: i32) -> bool {
         x == 0
     }
 
-    // The host may say `lo` to `hi`.
+    // The host may say the words of its range.
     fn may_say(&self, x: i32) -> bool {
-        range::holds(self.lo, self.hi, x)
+        self.host.holds(x)
     }
 }
 
 impl HostWords for Word {
-    ghost list = { λ w. ascending w.lo w.hi };
+    ghost list = { λ w. ascending w.host.lo w.host.hi };
 
-    ghost listed = { λ a. ascending_listed a.lo a.hi a.limits.2 (word_meaning a.lo a.hi) (λ z. refl) };
+    // The range answers both calls. Each kind passes them on: an impl for all kinds with a range would keep others from lists of their own.
+    ghost listed = { λ a. ascending_listed _ _ a.host.limits _ (λ z. refl) };
 
-    // The number of words from `lo` to `hi`.
+    // The number of words of the host's range.
     fn list_length(&self) -> u16 {
-        range::count(self.lo, self.hi)
+        self.host.count()
     }
 
-    // The word that stands `place` places after `lo`.
+    // The word that stands `place` places after the least of the range.
     fn word_at(&self, place: u16) -> Option<i32> {
-        range::at(self.lo, self.hi, place)
+        self.host.at(place)
     }
 }

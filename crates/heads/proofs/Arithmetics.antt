@@ -6,9 +6,10 @@ use Rattle.std.specs.List.{AllByRecursion}
 use Rattle.faults.specs.declared.TextFault.{TextFault}
 use Rattle.faults.specs.declared.PlayFault.{PlayFault}
 use Rattle.faults.specs.declared.PlayFault.TheVariants.{Text, Typing, Bounds, Settings as SettingsFault}
+use Rattle.arithmetic.specs.declared.range.HostRange.{HostRange}
 use Rattle.arithmetic.specs.declared.kinds.Word.{Word as WordArithmetic}
 use Rattle.arithmetic.specs.declared.kinds.Counter.{Counter as CounterArithmetic}
-use Rattle.arithmetic.specs.Settings.{word_settings, counter_settings}
+use Rattle.arithmetic.specs.Settings.{host_range, word_settings, counter_settings}
 use Rattle.text.specs.Slots.{Slot, literal, number, word, written, InRange, Free, Fits}
 use Rattle.text.specs.Reading.{keyword_of, number_of, word_of, both, all_three}
 use Rattle.text.proofs.Laws.{number_written, number_exact, word_written, word_exact, keyword_found}
@@ -159,21 +160,26 @@ settings_reading = record {
 }
 
 -- two arithmetics of the same settings are the same
-same_word : (v w : WordArithmetic) → v.lo ≡ w.lo → v.hi ≡ w.hi → v ≡ w
-same_word v w lo hi =
-    same_made (λ (r : ℤ × ℤ). word_settings r.0 r.1) (λ r. hlevel props) (λ r h. record { lo = r.0; hi = r.1; limits = h })
+same_range : (v w : HostRange) → v.lo ≡ w.lo → v.hi ≡ w.hi → v ≡ w
+same_range v w lo hi =
+    same_made (λ (r : ℤ × ℤ). host_range r.0 r.1) (λ r. hlevel props) (λ r h. record { lo = r.0; hi = r.1; limits = h })
     (v.lo, v.hi) (w.lo, w.hi) v.limits w.limits (cc)
 
-same_counter : (v w : CounterArithmetic) → v.top ≡ w.top → v.lo ≡ w.lo → v.hi ≡ w.hi → v ≡ w
-same_counter v w top lo hi =
-    same_made (λ (r : ℕ × ℤ × ℤ). counter_settings r.0 r.1 r.2) (λ r. hlevel props) (λ r h. record { top = r.0; lo = r.1; hi = r.2; limits = h })
-    (v.top, v.lo, v.hi) (w.top, w.lo, w.hi) v.limits w.limits (cc)
+same_word : (v w : WordArithmetic) → v.host ≡ w.host → v ≡ w
+same_word v w host =
+    same_made (λ (r : HostRange). word_settings r.lo r.hi) (λ r. hlevel props) (λ r h. record { host = r; limits = h })
+    v.host w.host v.limits w.limits host
+
+same_counter : (v w : CounterArithmetic) → v.top ≡ w.top → v.host ≡ w.host → v ≡ w
+same_counter v w top host =
+    same_made (λ (r : ℕ × HostRange). counter_settings r.0 r.1.lo r.1.hi) (λ r. hlevel props) (λ r h. record { top = r.0; host = r.1; limits = h })
+    (v.top, v.host) (w.top, w.host) v.limits w.limits (cc)
 
 same_kind : (a b : Kind) → settings_of a ≡ settings_of b → a ≡ b
-same_kind (Word v) (Word w) e = ap Word (same_word v w (cc) (cc))
+same_kind (Word v) (Word w) e = ap Word (same_word v w (same_range v.host w.host (cc) (cc)))
 same_kind (Word v) (Counter w) e = cc
 same_kind (Counter v) (Word w) e = cc
-same_kind (Counter v) (Counter w) e = ap Counter (same_counter v w (cc) (cc) (cc))
+same_kind (Counter v) (Counter w) e = ap Counter (same_counter v w (cc) (same_range v.host w.host (cc) (cc)))
 
 settings_faults : Faults settings_slots SettingsWithinLimits SettingsFault ArithmeticLineFault
 settings_faults = record { of_text = λ line fault h. h; text_of = λ line fault h. h; of_outside = λ line h. h; kinds = kinds }

@@ -25,8 +25,8 @@ SettingsWithinLimits (CounterNumbers top lo hi) = counter_settings top lo hi
 
 -- the settings of an arithmetic
 abbrev pub settings_of : Kind → Settings
-settings_of (Word arithmetic) = WordNumbers arithmetic.lo arithmetic.hi
-settings_of (Counter arithmetic) = CounterNumbers arithmetic.top arithmetic.lo arithmetic.hi
+settings_of (Word arithmetic) = WordNumbers arithmetic.host.lo arithmetic.host.hi
+settings_of (Counter arithmetic) = CounterNumbers arithmetic.top arithmetic.host.lo arithmetic.host.hi
 
 -- the arithmetic of just these settings where they are within their limits, and else the fault
 abbrev pub Made : Settings → Result Kind PlayFault → Type 0
