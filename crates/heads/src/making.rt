@@ -23,8 +23,7 @@ impl HeadLine for Settings {
 
     // The word of the line and a kind, and as many fields as the kind has numbers.
     fn formed(fields: Fields) -> bool {
-        let Some((word, numbers)) = after_word(b"arith", fields).and_then(|kind| kind.split())
-        else {
+        let Some((word, numbers)) = after_word(b"arith", fields).and_then(Fields::split) else {
             return false;
         };
         match keyword_of::<KindWord>(word) {
@@ -38,14 +37,10 @@ impl HeadLine for Settings {
     fn in_fields(fields: Fields) -> Option<Settings> {
         let (word, numbers) = after_word(b"arith", fields)?.split()?;
         match keyword_of::<KindWord>(word)? {
-            KindWord::Word => {
-                let (lo, hi) = numbers.two::<i32, i32>()?;
-                Some(Settings::Word { lo, hi })
-            }
-            KindWord::Counter => {
-                let (top, lo, hi) = numbers.three::<u32, i32, i32>()?;
-                Some(Settings::Counter { top, lo, hi })
-            }
+            KindWord::Word => numbers.two().map(|(lo, hi)| Settings::Word { lo, hi }),
+            KindWord::Counter => numbers
+                .three()
+                .map(|(top, lo, hi)| Settings::Counter { top, lo, hi }),
         }
     }
 
@@ -74,8 +69,7 @@ impl HeadLine for PlayNumbers {
 
     // The three numbers after the word of the line.
     fn in_fields(fields: Fields) -> Option<PlayNumbers> {
-        let (depth, insistence, steps) = after_word(b"play", fields)?.three()?;
-        Some(PlayNumbers {
+        after_word(b"play", fields)?.three().map(|(depth, insistence, steps)| PlayNumbers {
             depth,
             insistence,
             steps,
