@@ -1,11 +1,11 @@
 //! Answers each input that the file `names` lists, and prints its name with the answer; then reads into few rows.
 #![tactic(auto)]
 
-use anyhow::anyhow;
-use faults::{Placed, TextFault};
+use anyhow::{Context, ensure};
+use faults::Placed;
 use reader::read;
 use report::report;
-use rows::Row;
+use rows::{Counts, Row};
 use std::fs;
 use text::first_line;
 
@@ -13,19 +13,11 @@ use text::first_line;
 fn into_rows(rt: &HostRuntime, text: &[u8], room: usize) -> anyhow::Result<()> {
     let other = Row::Variable(7, 7);
     let mut rows = vec![in rt.alloc(); other; 24]?;
-    if room > rows.len() {
-        return Err(anyhow!("too few rows to try"));
-    }
+    ensure!(room <= rows.len(), "too few rows to try");
     let answer = read(text, &mut rows[0..room]);
-    let mut stayed: u32 = 0;
-    for row in rows.iter() {
-        if *row == other {
-            stayed = stayed.saturating_add(1);
-        }
-    }
+    let stayed = rows.iter().filter(|row| **row == other).count();
     match answer {
-        Ok(counts) => {
-            let terms = counts.terms;
+        Ok(Counts { terms, .. }) => {
             println!(rt; "{room} rows: read with {terms} terms, {stayed} rows stay")?;
         }
         Err(Placed { place, fault }) => {
@@ -39,12 +31,8 @@ fn into_rows(rt: &HostRuntime, text: &[u8], room: usize) -> anyhow::Result<()> {
 // Reads a library of 19 lines, no lines and a malformed line into few rows.
 fn few_rows(rt: &HostRuntime) -> anyhow::Result<()> {
     let input = fs::read(rt, "callback_asserts_flag.in")?;
-    let Some((_, rest)) = first_line(&input) else {
-        return Err(anyhow!("no first line"));
-    };
-    let Some((_, library)) = first_line(rest) else {
-        return Err(anyhow!("no second line"));
-    };
+    let (_, rest) = first_line(&input).context("no first line")?;
+    let (_, library) = first_line(rest).context("no second line")?;
     for room in [24, 19, 18, 0] {
         into_rows(rt, library, room)?;
     }

@@ -1,18 +1,17 @@
 -- What the fields of a first line tell of the line, and the one answer to it. Assumes nothing.
-use Rattle.std.proofs.Common.{◌≡◌, ℕ, ◌<◌, true, false, List, [], ◌∷◌, ◌++◌, map, length, ℤ, pos, Some, None, Ok, Err, Option, Result, sym, refl, ap, ◌∙◌, subst, arith, w32, SFits, eq-eqb, true-eqb}
+use Rattle.std.proofs.Common.{◌≡◌, ℕ, ◌≤◌, true, List, [], ◌∷◌, ◌++◌, map, length, ℤ, pos, decimal, Some, None, Ok, Err, Option, Result, sym, refl, ap, ◌∙◌, subst, arith, inl, inr, ◌⊎◌, w32, SFits, eq-eqb, true-eqb}
 use denote.Struct.Props.{props}
 use Rattle.std.specs.Fmt.{signed_decimal}
 use Rattle.std.specs.List.{AllByRecursion}
-use Rattle.faults.specs.declared.TextFault.TheVariants.{Form, Number}
+use Rattle.faults.specs.declared.TextFault.{TextFault}
 use Rattle.faults.specs.declared.PlayFault.{PlayFault}
 use Rattle.faults.specs.declared.PlayFault.TheVariants.{Text, Typing, Bounds, Settings as SettingsFault}
-use Rattle.faults.specs.Numbers.{play_number}
 use Rattle.arithmetic.specs.declared.range.HostRange.{HostRange}
 use Rattle.arithmetic.specs.declared.kinds.Word.{Word as WordArithmetic}
 use Rattle.arithmetic.specs.declared.kinds.Counter.{Counter as CounterArithmetic}
 use Rattle.arithmetic.specs.Settings.{host_range, word_settings, counter_settings}
-use Rattle.text.specs.Slots.{Slot, literal, number, word, written, InRange, Lacks, Free, Fits}
-use Rattle.text.specs.Reading.{keyword_of, number_of, word_of, cut}
+use Rattle.text.specs.Slots.{Slot, literal, number, word, written, InRange, Free, Fits}
+use Rattle.text.specs.Reading.{keyword_of, number_of, word_of, both, all_three}
 use Rattle.text.proofs.Laws.{number_written, number_exact, word_written, word_exact, keyword_found}
 use Rattle.heads.specs.declared.keywords.KindWord.{KindWord}
 use Rattle.heads.specs.declared.keywords.KindWord.TheVariants.{Word as WordKind, Counter as CounterKind}
@@ -21,27 +20,27 @@ use Rattle.heads.specs.declared.settings.Kind.TheVariants.{Word, Counter}
 use Rattle.heads.specs.declared.settings.Settings.{Settings}
 use Rattle.heads.specs.declared.settings.Settings.TheVariants.{Word as WordNumbers, Counter as CounterNumbers}
 use Rattle.heads.specs.Words.{arithmetic_word, kind_word, kind_table}
-use Rattle.heads.specs.Fields.{after_word, both_words, two_words, with_number, word_of_range, counter_of_range, settings_by, settings_after, settings_in, settings_formed_by, settings_formed_after, settings_formed}
-use Rattle.heads.specs.Lines.{SpellsWithin, Least, Only}
-use Rattle.text.specs.Lines.{Spells}
+use Rattle.heads.specs.Fields.{after_word, two_words, number_and_two_words, word_of_range, counter_of_range, settings_by, settings_after, settings_in, settings_formed_by, settings_formed_after, settings_formed}
+use Rattle.heads.specs.Lines.{SpellsOutside, Only}
 use Rattle.heads.specs.Arithmetics.{settings_slots, SettingsWithinLimits, settings_of, Made, ArithmeticLineFault, ArithmeticAnswer}
-use Rattle.heads.proofs.Lines.{Reading, free_fits, after_found, formed_line, spells_read, spells_once, text_faultless, feed_unformed, fields_unformed, spells_none, same_made}
+use Rattle.heads.proofs.Lines.{Reading, free_fits, after_found, same_made}
 use Rattle.text.proofs.Forms.{words_free, fits_length, word_first}
-use Rattle.heads.proofs.Answering.{least_form, least_number, one_answer}
+use Rattle.heads.specs.Heads.{ByFields}
+use Rattle.heads.proofs.Heads.{Faults, MadeWithin, fields_allowed, only_allowed}
 
 -- the fields of settings spell them
 settings_written : (s : Settings) → AllByRecursion InRange (settings_slots s) → settings_in (map written (settings_slots s)) ≡ Some s
 settings_written (WordNumbers lo hi) h = rw (word_written lo h.1.1.0, word_written hi h.1.1.1.0)
 settings_written (CounterNumbers top lo hi) h = rw (number_written top h.1.1.0, word_written lo h.1.1.1.0, word_written hi h.1.1.1.1.0)
 
--- the two words that are read have 32 bits, and are written by the two fields
-both_say : (x y : Option ℤ) (p : ℤ × ℤ) → both_words x y ≡ Some p → (x ≡ Some p.0) × (y ≡ Some p.1)
-both_say None y p e = cc
-both_say (Some a) None p e = cc
-both_say (Some a) (Some b) p e =
-    let d : ◌≡◌ {A = ℤ × ℤ} (a, b) p = cc in
-    (ap (λ (t : ℤ × ℤ). Some t.0) d, ap (λ (t : ℤ × ℤ). Some t.1) d)
+-- values that are all read are each read
+both_say : {A B : Type 0} (x : Option A) (y : Option B) (p : A × B) → both x y ≡ Some p → (x ≡ Some p.0) × (y ≡ Some p.1)
+both_say x y p e = grind arith
 
+all_say : {A B C : Type 0} (x : Option A) (y : Option B) (z : Option C) (p : A × B × C) → all_three x y z ≡ Some p → (x ≡ Some p.0) × (y ≡ Some p.1) × (z ≡ Some p.2)
+all_say x y z p e = grind arith
+
+-- the two words that are read have 32 bits, and are written by the two fields
 words_exact : (fs : List (List ℕ)) (p : ℤ × ℤ) → two_words fs ≡ Some p → (fs ≡ signed_decimal p.0 ∷ signed_decimal p.1 ∷ []) × SFits w32 p.0 × SFits w32 p.1
 words_exact [] p e = cc
 words_exact (f ∷ []) p e = cc
@@ -52,32 +51,42 @@ words_exact (f ∷ g ∷ []) p e =
     (rw (x.1, y.1) refl, x.0, y.0)
 words_exact (f ∷ g ∷ h ∷ fs) p e = cc
 
+-- a number before them is in its range, and is written by the field before theirs
+number_words_exact : (fs : List (List ℕ)) (p : ℕ × ℤ × ℤ) → number_and_two_words fs ≡ Some p → (fs ≡ decimal p.0 ∷ signed_decimal p.1 ∷ signed_decimal p.2 ∷ []) × (p.0 ≤ 65535) × SFits w32 p.1 × SFits w32 p.2
+number_words_exact [] p e = cc
+number_words_exact (f ∷ []) p e = cc
+number_words_exact (f ∷ g ∷ []) p e = cc
+number_words_exact (f ∷ g ∷ h ∷ []) p e =
+    let q = all_say (number_of f) (word_of g) (word_of h) p e in
+    let x = number_exact f p.0 q.0 in
+    let y = word_exact g p.1 q.1 in
+    let z = word_exact h p.2 q.2 in
+    (rw (x.1, y.1, z.1) refl, x.0, y.0, z.0)
+number_words_exact (f ∷ g ∷ h ∷ i ∷ fs) p e = cc
+
 -- slots whose numbers are in range, and that the fields are written by
 abbrev WrittenBy : Settings → List (List ℕ) → Type 0
 WrittenBy s gs = AllByRecursion InRange (settings_slots s) × (map written (settings_slots s) ≡ gs)
 
-word_exact_of : (o : Option (ℤ × ℤ)) (fs : List (List ℕ)) (s : Settings) → two_words fs ≡ o → word_of_range o ≡ Some s → WrittenBy s (arithmetic_word ∷ kind_word WordKind ∷ fs)
-word_exact_of None fs s is e = cc
-word_exact_of (Some p) fs s is e =
-    let x = words_exact fs p is in
-    let same : WordNumbers p.0 p.1 ≡ s = cc in
-    subst (λ t. WrittenBy t (arithmetic_word ∷ kind_word WordKind ∷ fs)) same
-    ((tt, (tt, (x.1, (x.2, tt)))), ap (λ hs. arithmetic_word ∷ kind_word WordKind ∷ hs) (sym x.0))
-
-counter_exact_of : (m : Option ℕ) (o : Option (ℤ × ℤ)) (f : List ℕ) (fs : List (List ℕ)) (s : Settings) → number_of f ≡ m → two_words fs ≡ o → counter_of_range (with_number m o) ≡ Some s → WrittenBy s (arithmetic_word ∷ kind_word CounterKind ∷ f ∷ fs)
-counter_exact_of None o f fs s is are e = cc
-counter_exact_of (Some n) None f fs s is are e = cc
-counter_exact_of (Some n) (Some p) f fs s is are e =
-    let y = number_exact f n is in
-    let x = words_exact fs p are in
-    let same : CounterNumbers n p.0 p.1 ≡ s = cc in
-    subst (λ t. WrittenBy t (arithmetic_word ∷ kind_word CounterKind ∷ f ∷ fs)) same
-    ((tt, (tt, (y.0, (x.1, (x.2, tt))))), rw y.1 (ap (λ hs. arithmetic_word ∷ kind_word CounterKind ∷ f ∷ hs) (sym x.0)))
-
 kind_exact : (k : KindWord) (fs : List (List ℕ)) (s : Settings) → settings_by (Some k) fs ≡ Some s → WrittenBy s (arithmetic_word ∷ kind_word k ∷ fs)
-kind_exact WordKind fs s e = word_exact_of (two_words fs) fs s refl e
-kind_exact CounterKind [] s e = cc
-kind_exact CounterKind (f ∷ fs) s e = counter_exact_of (number_of f) (two_words fs) f fs s refl refl e
+kind_exact WordKind fs s e = read (two_words fs) refl e
+  where
+    read : (o : Option (ℤ × ℤ)) → two_words fs ≡ o → word_of_range o ≡ Some s → WrittenBy s (arithmetic_word ∷ kind_word WordKind ∷ fs)
+    read None is h = cc
+    read (Some p) is h =
+        let x = words_exact fs p is in
+        let same : WordNumbers p.0 p.1 ≡ s = cc in
+        subst (λ t. WrittenBy t (arithmetic_word ∷ kind_word WordKind ∷ fs)) same
+        ((tt, (tt, (x.1, (x.2, tt)))), ap (λ hs. arithmetic_word ∷ kind_word WordKind ∷ hs) (sym x.0))
+kind_exact CounterKind fs s e = read (number_and_two_words fs) refl e
+  where
+    read : (o : Option (ℕ × ℤ × ℤ)) → number_and_two_words fs ≡ o → counter_of_range o ≡ Some s → WrittenBy s (arithmetic_word ∷ kind_word CounterKind ∷ fs)
+    read None is h = cc
+    read (Some p) is h =
+        let x = number_words_exact fs p is in
+        let same : CounterNumbers p.0 p.1 p.2 ≡ s = cc in
+        subst (λ t. WrittenBy t (arithmetic_word ∷ kind_word CounterKind ∷ fs)) same
+        ((tt, (tt, (x.1, (x.2, (x.3, tt))))), ap (λ hs. arithmetic_word ∷ kind_word CounterKind ∷ hs) (sym x.0))
 
 -- the settings that fields spell are written by them
 settings_exact : (gs : List (List ℕ)) (s : Settings) → settings_in gs ≡ Some s → WrittenBy s gs
@@ -172,46 +181,23 @@ same_kind (Word v) (Counter w) e = cc
 same_kind (Counter v) (Word w) e = cc
 same_kind (Counter v) (Counter w) e = ap Counter (same_counter v w (cc) (same_range v.host w.host (cc) (cc)))
 
-module _ (body : List ℕ) where
-  abbrev line : List ℕ
-  line = body ++ (10 ∷ [])
+settings_faults : Faults settings_slots SettingsWithinLimits SettingsFault ArithmeticLineFault
+settings_faults = record { of_text = λ line fault h. h; text_of = λ line fault h. h; of_outside = λ line h. h; kinds = kinds }
+  where
+    kinds : (line : List ℕ) (fault : PlayFault) → ArithmeticLineFault line fault → ((f : TextFault) × (fault ≡ Text f)) ⊎ ((fault ≡ SettingsFault) × SpellsOutside settings_slots SettingsWithinLimits line)
+    kinds line (Text fault) h = inl (fault, refl)
+    kinds line (Typing fault) h = absurd h
+    kinds line Bounds h = absurd h
+    kinds line SettingsFault h = inr (refl, h)
 
-  faultless : (kind : Kind) (fault : PlayFault) → SpellsWithin settings_slots SettingsWithinLimits line (settings_of kind) → ArithmeticLineFault line fault → ⊥
-  faultless kind (Text fault) h k = text_faultless _ _ _ settings_reading body (settings_of kind) h.spelled fault k
-  faultless kind (Typing f) h k = k
-  faultless kind Bounds h k = k
-  faultless kind SettingsFault h k =
-      k.2 (subst SettingsWithinLimits (spells_once _ _ _ settings_reading body (settings_of kind) k.0 h.spelled k.1) h.within)
+-- every allowed answer is this one
+pub only_arithmetic : (body : List ℕ) (r : Result Kind PlayFault) → ArithmeticAnswer (body ++ (10 ∷ [])) r → Only (ArithmeticAnswer (body ++ (10 ∷ []))) r
+only_arithmetic = only_allowed settings_reading settings_faults settings_of same_kind
 
-  -- every allowed answer is this one
-  pub only_arithmetic : (r : Result Kind PlayFault) → ArithmeticAnswer line r → Only (ArithmeticAnswer line) r
-  only_arithmetic =
-      one_answer (λ kind. SpellsWithin settings_slots SettingsWithinLimits line (settings_of kind)) (ArithmeticLineFault line)
-      (λ a b h k. same_kind a b (spells_once _ _ _ settings_reading body (settings_of a) (settings_of b) h.spelled k.spelled)) faultless
-
-  outside_least : (s : Settings) → Spells settings_slots line s → (SettingsWithinLimits s → ⊥) → Least (ArithmeticLineFault line) SettingsFault
-  outside_least s h outside = record { here = (s, h, outside); none_smaller = below }
-    where
-      below : (other : PlayFault) → play_number other < 22 → ArithmeticLineFault line other → ⊥
-      below (Text fault) less k = text_faultless _ _ _ settings_reading body s h fault k
-      below (Typing f) less k = k
-      below Bounds less k = k
-      below SettingsFault less k = omega arith
-
-  -- the answers of the code, from what it finds out
-  pub arithmetic_with_feed : (Lacks 10 body → ⊥) → ArithmeticAnswer line (Err (Text Form))
-  arithmetic_with_feed feed = least_form (ArithmeticLineFault line) (feed_unformed _ _ _ settings_reading body feed)
-
-  pub arithmetic_unformed : settings_formed (cut body) ≡ false → ArithmeticAnswer line (Err (Text Form))
-  arithmetic_unformed e = least_form (ArithmeticLineFault line) (fields_unformed _ _ _ settings_reading body e)
-
-  pub arithmetic_misnumbered : Lacks 10 body → settings_formed (cut body) ≡ true → settings_in (cut body) ≡ None → ArithmeticAnswer line (Err (Text Number))
-  arithmetic_misnumbered lacks e none =
-      least_number (ArithmeticLineFault line) (spells_none _ _ _ settings_reading body none)
-      (λ unformed. unformed (formed_line _ _ _ settings_reading body lacks e))
-
-  pub arithmetic_made : (s : Settings) (r : Result Kind PlayFault) → settings_in (cut body) ≡ Some s → Made s r → ArithmeticAnswer line r
-  arithmetic_made s (Ok kind) e h =
-      record { spelled = subst (Spells settings_slots line) (sym h.1) (spells_read _ _ _ settings_reading body s e); within = subst SettingsWithinLimits (sym h.1) h.0 }
-  arithmetic_made s (Err fault) e h =
-      subst (Least (ArithmeticLineFault line)) (sym h.1) (outside_least s (spells_read _ _ _ settings_reading body s e) h.0)
+-- the answer by the fields of a first line is allowed
+pub arithmetic_allowed : (body : List ℕ) (r : Result Kind PlayFault) → ByFields settings_formed settings_in Made body r → ArithmeticAnswer (body ++ (10 ∷ [])) r
+arithmetic_allowed = fields_allowed settings_reading settings_faults settings_of same_kind Made makes
+  where
+    makes : (s : Settings) (r : Result Kind PlayFault) → Made s r → MadeWithin SettingsWithinLimits SettingsFault settings_of s r
+    makes s (Ok kind) h = h
+    makes s (Err fault) h = h

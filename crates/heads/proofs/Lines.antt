@@ -1,22 +1,19 @@
 -- What the fields of a line tell of the line, for any thing that a line may name. Assumes nothing.
-use Rattle.std.proofs.Common.{◌≡◌, ℕ, Bool, true, false, cond, List, [], ◌∷◌, ◌++◌, map, length, Some, None, Option, sym, refl, ap, ◌∙◌, subst, arith}
+use Rattle.std.proofs.Common.{◌≡◌, ℕ, Bool, true, cond, List, [], ◌∷◌, ◌++◌, map, length, Some, None, Option, sym, refl, ap, ◌∙◌, subst, arith}
 use Rattle.std.specs.List.{AllByRecursion}
 use Rattle.std.specs.Str.{bytes_eq}
 use Rattle.std.proofs.lemmas.Slice.Eq.{bytes_eq-Decides}
 use Rattle.std.proofs.lemmas.List.{same_from_push}
-use Rattle.std.proofs.lemmas.Bool.{both_ways}
 use Rattle.faults.specs.declared.TextFault.{TextFault}
 use Rattle.faults.specs.declared.TextFault.TheVariants.{Form, Number, Order, Reference, Limit, Repeat}
 use Rattle.text.specs.Slots.{Slot, literal, number, word, written, InRange, Lacks, Free, Fits, commas}
 use Rattle.text.specs.Reading.{cut}
-use Rattle.text.proofs.Laws.{none_some, cut_free, commas_cut}
+use Rattle.text.proofs.Laws.{cut_free, commas_cut}
 use Rattle.text.proofs.Forms.{word_first, words_free, fits_free, written_fits, commas_lack, cut_fields}
 use Rattle.heads.specs.Fields.{after_word}
+use Rattle.heads.specs.Heads.{FieldsFormed}
 use Rattle.heads.specs.Lines.{HasTextFault}
 use Rattle.text.specs.Lines.{Spells, Formed}
-
-pub false_true : false ≡ true → ⊥
-false_true e = both_ways false refl e
 
 -- a number stands in the slot
 abbrev pub Blank : Slot → Type 0
@@ -35,11 +32,10 @@ free_fits (word z ∷ ss) (g ∷ gs) blank free e = (free.0, free_fits ss gs bla
 
 -- the fields after a first word
 taken_says : {Y : Type 0} (t : Bool) (x y : Y) → cond t (Some x) None ≡ Some y → (t ≡ true) × (x ≡ y)
-taken_says true x y e = (refl, cc)
-taken_says false x y e = absurd (none_some y e)
+taken_says t x y e = grind arith
 
 pub after_found : (w : List ℕ) (gs hs : List (List ℕ)) → after_word w gs ≡ Some hs → gs ≡ w ∷ hs
-after_found w [] hs e = absurd (none_some hs e)
+after_found w [] hs e = cc
 after_found w (g ∷ gs) hs e =
     let p = taken_says (bytes_eq w g) gs hs e in
     let same = (bytes_eq-Decides w g).0 p.0 in
@@ -68,20 +64,20 @@ module _ {X : Type 0} (slots : X → List Slot) (formed : List (List ℕ) → Bo
   fields_back x gs h same =
       let free = fits_free (slots x) gs (laws.free x) h in
       let first = word_first laws.first_word (laws.others x) gs (subst (λ ss. Fits ss gs) (laws.begins x) h) in
-      let some : gs ≡ [] → ⊥ = λ e. let z : ◌≡◌ {A = List (List ℕ)} [] (laws.first_word ∷ first.0) = sym e ∙ first.1 in let one : ◌≡◌ {A = ℕ} 0 1 = cc in omega arith in
+      let some : gs ≡ [] → ⊥ = λ e. let z : ◌≡◌ {A = List (List ℕ)} [] (laws.first_word ∷ first.0) = sym e ∙ first.1 in cc in
       let whole = (same_from_push body (commas gs) 10 10 same).0 in
       (ap cut whole ∙ cut_fields gs free some, subst (Lacks 10) (sym whole) (commas_lack gs free))
 
   -- a line has a form just where its fields have one and no line feed stands in it
-  pub formed_line : Lacks 10 body → formed (cut body) ≡ true → Formed slots line
-  formed_line lacks e =
-      let p = laws.form (cut body) (cut_free body lacks) e in
+  pub formed_line : FieldsFormed formed body → Formed slots line
+  formed_line h =
+      let p = laws.form (cut body) (cut_free body h.0) h.1 in
       (p.0, cut body, p.1, ap (λ b. b ++ (10 ∷ [])) (sym (commas_cut body)))
 
-  pub formed_fields : Formed slots line → (formed (cut body) ≡ true) × Lacks 10 body
+  pub formed_fields : Formed slots line → FieldsFormed formed body
   formed_fields h =
       let back = fields_back h.0 h.1 h.2 h.3 in
-      (ap formed back.0 ∙ laws.fits h.0 h.1 h.2, back.1)
+      (back.1, ap formed back.0 ∙ laws.fits h.0 h.1 h.2)
 
   -- a line spells just what its fields are read as
   pub spells_read : (x : X) → read (cut body) ≡ Some x → Spells slots line x
@@ -111,16 +107,9 @@ module _ {X : Type 0} (slots : X → List Slot) (formed : List (List ℕ) → Bo
   text_faultless x h Limit k = k
   text_faultless x h Repeat k = k
 
-  -- the form fails where a line feed stands in the line, or where the fields have no form
-  pub feed_unformed : (Lacks 10 body → ⊥) → Formed slots line → ⊥
-  feed_unformed feed h = feed (formed_fields h).1
-
-  pub fields_unformed : formed (cut body) ≡ false → Formed slots line → ⊥
-  fields_unformed e h = both_ways _ e (formed_fields h).0
-
   -- nothing is spelled where nothing is read
   pub spells_none : read (cut body) ≡ None → (x : X) → Spells slots line x → ⊥
-  spells_none e x h = none_some x (sym e ∙ read_spells x h)
+  spells_none e x h = let read = read_spells x h in cc
 
 -- values that are made of the same data under facts that have one proof at most are the same
 pub same_made : {V Y : Type 0} (P : V → Type 0) → ((v : V) → IsProp (P v)) → (make : (v : V) → P v → Y) (v w : V) (p : P v) (q : P w) → v ≡ w → make v p ≡ make w q

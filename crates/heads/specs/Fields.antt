@@ -2,7 +2,7 @@
 -- in proofs/, and the contracts of the public functions speak of the printing alone.
 use Rattle.std.specs.Prelude.{ℕ, Bool, false, cond, List, [], ◌∷◌, length, ℤ, Some, None, Option, ◌==◌}
 use Rattle.std.specs.Str.{bytes_eq}
-use Rattle.text.specs.Reading.{keyword_of, number_of, word_of, three_numbers}
+use Rattle.text.specs.Reading.{keyword_of, number_of, word_of, two_values, three_values, three_numbers}
 use Rattle.heads.specs.declared.keywords.KindWord.{KindWord}
 use Rattle.heads.specs.declared.keywords.KindWord.TheVariants.{Word, Counter}
 use Rattle.heads.specs.declared.settings.PlayNumbers.{PlayNumbers}
@@ -15,29 +15,13 @@ abbrev pub after_word : List ℕ → List (List ℕ) → Option (List (List ℕ)
 after_word w [] = None
 after_word w (f ∷ fs) = cond (bytes_eq w f) (Some fs) None
 
--- two words, where both are there
-abbrev pub both_words : Option ℤ → Option ℤ → Option (ℤ × ℤ)
-both_words None y = None
-both_words (Some a) None = None
-both_words (Some a) (Some b) = Some (a, b)
-
 -- the words that the only two fields are
 abbrev pub two_words : List (List ℕ) → Option (ℤ × ℤ)
-two_words [] = None
-two_words (f ∷ []) = None
-two_words (f ∷ g ∷ []) = both_words (word_of f) (word_of g)
-two_words (f ∷ g ∷ h ∷ fs) = None
-
--- a number before two words, where all are there
-abbrev pub with_number : Option ℕ → Option (ℤ × ℤ) → Option (ℕ × ℤ × ℤ)
-with_number None p = None
-with_number (Some a) None = None
-with_number (Some a) (Some p) = Some (a, p.0, p.1)
+two_words = two_values word_of word_of
 
 -- the number and the two words that the only three fields are
 abbrev pub number_and_two_words : List (List ℕ) → Option (ℕ × ℤ × ℤ)
-number_and_two_words [] = None
-number_and_two_words (f ∷ fs) = with_number (number_of f) (two_words fs)
+number_and_two_words = three_values number_of word_of word_of
 
 -- settings made of numbers that are there
 abbrev pub word_of_range : Option (ℤ × ℤ) → Option Settings

@@ -4,3 +4,4 @@ pub mod Lines
 pub mod Arithmetics
 pub mod Plays
 pub mod Fields
+pub mod Heads

@@ -1,110 +1,25 @@
-//! What the fields of a head line spell.
-ghost use Rattle.heads.specs.Fields.{after_word, number_and_two_words, play_formed, play_in, settings_formed, settings_in, two_words};
+//! The fields of a head line.
+ghost use Rattle.heads.specs.Fields.{after_word};
 ghost use Rattle.std.specs.Option.{option_map};
 ghost use Rattle.text.specs.Reading.{cut};
 ghost use Rattle.text.specs.Remaining.{remaining};
 ghost use Rattle.text.specs.Slots.{Lacks};
 ghost use Rattle.std.specs.Prelude.{◌≡◌, MatchOption};
 
-use crate::keywords::KindWord;
-use crate::settings::{PlayNumbers, Settings};
-use text::{Fields, Keyword, first_line, keyword_of, number, signed_word, spells, three_numbers};
+use text::{Fields, first_line, spells};
 
 // The fields of a line; none where a line feed stands in it.
+#[tactic(auto, using(crate::proofs::Lines::has_feed))]
 pub(crate) fn line_fields(line: &[u8]) -> Option<Fields<'_>>
     ensures fields_of_one_line { MatchOption result (Lacks 10 line.now → ⊥) (λ fields. Lacks 10 line.now × (remaining fields ≡ cut line.now)) }
 {
-    match first_line(line) {
-        None => Some(Fields::of(line)),
-        Some(_) => None,
-    }
+    first_line(line).is_none().then_some(Fields::of(line))
 }
 
 // The fields after a first field that is the word.
-fn after_word<'a>(word: &[u8], fields: Fields<'a>) -> Option<Fields<'a>>
+pub(crate) fn after_word<'a>(word: &[u8], fields: Fields<'a>) -> Option<Fields<'a>>
     ensures fields_after_it { option_map remaining result ≡ after_word word.now (remaining fields.entry) }
 {
     let (first, others) = fields.split()?;
-    if spells(word, first) {
-        Some(others)
-    } else {
-        None
-    }
-}
-
-// The words that the fields left are, if there are exactly two and each is one.
-fn two_words(fields: Fields) -> Option<(i32, i32)>
-    ensures value { result ≡ two_words (remaining fields.entry) }
-{
-    let (first, others) = fields.split()?;
-    let a = signed_word(first)?;
-    let b = signed_word(others.only()?)?;
-    Some((a, b))
-}
-
-// The number and the two words that the fields left are, if there are exactly three and each is one.
-fn number_and_two_words(fields: Fields) -> Option<(u32, i32, i32)>
-    ensures value { result ≡ number_and_two_words (remaining fields.entry) }
-{
-    let (first, others) = fields.split()?;
-    let a = number(first)?;
-    let (b, c) = two_words(others)?;
-    Some((a, b, c))
-}
-
-// Whether the fields of a line have the form of a first line, whatever stands where numbers belong.
-pub(crate) fn settings_formed(fields: Fields) -> bool
-    ensures value { result ≡ settings_formed (remaining fields.entry) }
-{
-    let Some(kind) = after_word(b"arith", fields) else {
-        return false;
-    };
-    let Some((word, numbers)) = kind.split() else {
-        return false;
-    };
-    match keyword_of::<KindWord>(word) {
-        Some(KindWord::Word) => numbers.count() == 2,
-        Some(KindWord::Counter) => numbers.count() == 3,
-        None => false,
-    }
-}
-
-// The settings that the fields of a first line spell.
-pub(crate) fn settings_in(fields: Fields) -> Option<Settings>
-    ensures value { result ≡ settings_in (remaining fields.entry) }
-{
-    let kind = after_word(b"arith", fields)?;
-    let (word, numbers) = kind.split()?;
-    match keyword_of::<KindWord>(word)? {
-        KindWord::Word => {
-            let (lo, hi) = two_words(numbers)?;
-            Some(Settings::Word { lo, hi })
-        }
-        KindWord::Counter => {
-            let (top, lo, hi) = number_and_two_words(numbers)?;
-            Some(Settings::Counter { top, lo, hi })
-        }
-    }
-}
-
-// Whether the fields of a line have the form of a second line, whatever stands where numbers belong.
-pub(crate) fn play_formed(fields: Fields) -> bool
-    ensures value { result ≡ play_formed (remaining fields.entry) }
-{
-    match after_word(b"play", fields) {
-        Some(numbers) => numbers.count() == 3,
-        None => false,
-    }
-}
-
-// The numbers that the fields of a second line spell.
-pub(crate) fn play_in(fields: Fields) -> Option<PlayNumbers>
-    ensures value { result ≡ play_in (remaining fields.entry) }
-{
-    let (depth, insistence, steps) = three_numbers(after_word(b"play", fields)?)?;
-    Some(PlayNumbers {
-        depth,
-        insistence,
-        steps,
-    })
+    spells(word, first).then_some(others)
 }

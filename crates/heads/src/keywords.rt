@@ -2,10 +2,10 @@
 ghost use Rattle.heads.specs.Words.{kind_table, kind_word};
 ghost use Rattle.std.proofs.Common.{rules};
 
-use text::{Keyword, spells};
+use text::Keyword;
 
 /// A kind of arithmetic, without its settings.
-#[derive(Clone, Copy)]
+#[derive(Clone, Copy, PartialEq, Eq, Debug)]
 pub enum KindWord {
     Word,
     Counter,
@@ -18,21 +18,16 @@ impl Keyword for KindWord {
 
     ghost found = { Prim.search rules };
 
-    // Two kinds.
-    fn count() -> usize {
-        2
-    }
-
     // The kinds in the order of the table.
-    fn at(place: usize) -> Option<KindWord> {
-        [KindWord::Word, KindWord::Counter].get(place).copied()
+    fn all() -> &'static [KindWord] {
+        &[KindWord::Word, KindWord::Counter]
     }
 
     // Each kind by its bytes.
-    fn is_spelled(self, field: &[u8]) -> bool {
+    fn spelling(self) -> &'static [u8] {
         match self {
-            KindWord::Word => spells(b"word", field),
-            KindWord::Counter => spells(b"counter", field),
+            KindWord::Word => b"word",
+            KindWord::Counter => b"counter",
         }
     }
 }

@@ -46,6 +46,20 @@ pub record FirstCut (text line rest : List ℕ) : Type 0 where
   pub parts : text ≡ line ++ (10 ∷ rest)
   pub one_line : Lacks 10 line
 
+-- the reader of a head line takes it, where what it says of a line is given, and the rest is what follows it
+pub record Passed {Value : Type 0} (says : List ℕ → Result Value PlayFault → Type 0) (text rest : List ℕ) : Type 0 where
+  pub line : List ℕ
+  pub value : Value
+  pub cut : FirstCut text line rest
+  pub said : says line (Ok value)
+
+-- not one byte of the line at this place is there, or it has no line feed, or its reader refuses it
+pub record Refused {Value : Type 0} (says : List ℕ → Result Value PlayFault → Type 0) (place : ℕ) (text : List ℕ) (placed : Placed PlayFault) : Type 0 where
+  pub reason :
+      ((text ≡ []) × (placed ≡ record { place = 0; fault = Text Form }))
+      ⊎ (((0 < length text) × Lacks 10 text × (placed ≡ record { place = place; fault = Text Form }))
+      ⊎ ((line : List ℕ) × (rest : List ℕ) × (fault : PlayFault) × FirstCut text line rest × says line (Err fault) × (placed ≡ record { place = place; fault = fault })))
+
 -- the answer to a head line and what follows it, where the line's own answer is given, and its place
 module _ {Value : Type 0} (line_answer : List ℕ → Result Value PlayFault → Type 0) (place : ℕ) (after : List ℕ → Answer → Type 0) where
   -- not one byte of the line is there

@@ -1,6 +1,7 @@
 //! The answer to a whole input: the two head lines, then the library.
-ghost use Rattle.std.specs.Prelude.{◌≡◌, ℕ, ◌≤◌, List, length};
-ghost use Rattle.report.specs.Input.{InputAnswer, LibraryAnswer, Only, PlayAndLibrary, in_input, most_rows, refused_at};
+ghost use Rattle.report.specs.Input.{InputAnswer, LibraryAnswer, Only, Passed, Refused, in_input, most_rows};
+ghost use Rattle.std.specs.Fn.{FnOnceReturnsAt};
+ghost use Rattle.std.specs.Prelude.{◌≡◌, ℕ, ◌≤◌, List, MatchResult, length};
 
 use faults::{Placed, PlayFault, TextFault};
 use heads::{arithmetic_line, play_line};
@@ -16,7 +17,7 @@ fn in_whole_input(found: Placed<TextFault>) -> Placed<PlayFault>
     let place = if found.place == 0 { 0 } else { found.place + 2 };
     Placed {
         place,
-        fault: PlayFault::Text(found.fault),
+        fault: found.fault.into(),
     }
 }
 
@@ -26,35 +27,31 @@ fn library_answer(text: &[u8], rows: &mut [Row]) -> Result<Counts, Placed<PlayFa
     ensures answer { LibraryAnswer text.now result }
     ensures only_answer { Only (LibraryAnswer text.now) result }
 {
-    match read(text, rows) {
-        Ok(counts) => Ok(counts),
-        Err(found) => Err(in_whole_input(found)),
-    }
+    read(text, rows).map_err(in_whole_input)
 }
 
-// A fault with its place.
-fn at(place: u32, fault: PlayFault) -> Result<Counts, Placed<PlayFault>>
-    ensures placed { result ≡ refused_at place fault }
+// The text after a head line that its reader takes.
+fn after_head<T: Drop, F: FnOnce(&[u8]) -> Result<T, PlayFault>>(
+    text: &[u8],
+    place: u32,
+    line_reader: F,
+) -> Result<&[u8], Placed<PlayFault>>
+    requires callable { F.IsAlwaysCallable line_reader }
+    ensures rest_or_fault { MatchResult result (λ rest. Passed (FnOnceReturnsAt F.FnOnce line_reader) text.now rest.now) (Refused (FnOnceReturnsAt F.FnOnce line_reader) place text.now) }
 {
-    Err(Placed { place, fault })
-}
-
-// The answer to the line of the bounds of play and the library after it.
-fn play_and_library(text: &[u8], rows: &mut [Row]) -> Result<Counts, Placed<PlayFault>>
-    requires enough_rows { length rows.old ≡ most_rows }
-    ensures answer { PlayAndLibrary text.now result }
-    ensures only_answer { Only (PlayAndLibrary text.now) result }
-{
+    let formless = PlayFault::Text(TextFault::Form);
     if text.is_empty() {
-        return at(0, PlayFault::Text(TextFault::Form));
+        return Err(Placed {
+            place: 0,
+            fault: formless,
+        });
     }
-    let Some((line, rest)) = first_line(text) else {
-        return at(2, PlayFault::Text(TextFault::Form));
-    };
-    match play_line(line) {
-        Ok(_) => library_answer(rest, rows),
-        Err(fault) => at(2, fault),
-    }
+    let (line, rest) = first_line(text).ok_or(Placed {
+        place,
+        fault: formless,
+    })?;
+    line_reader(line).map_err(|fault| Placed { place, fault })?;
+    Ok(rest)
 }
 
 // The answer to a whole input, over rows enough for every library.
@@ -63,14 +60,7 @@ pub(crate) fn answer(input: &[u8], rows: &mut [Row]) -> Result<Counts, Placed<Pl
     ensures answer { InputAnswer input.now result }
     ensures only_answer { Only (InputAnswer input.now) result }
 {
-    if input.is_empty() {
-        return at(0, PlayFault::Text(TextFault::Form));
-    }
-    let Some((line, rest)) = first_line(input) else {
-        return at(1, PlayFault::Text(TextFault::Form));
-    };
-    match arithmetic_line(line) {
-        Ok(_) => play_and_library(rest, rows),
-        Err(fault) => at(1, fault),
-    }
+    let rest = after_head(input, 1, arithmetic_line)?;
+    let library = after_head(rest, 2, play_line)?;
+    library_answer(library, rows)
 }

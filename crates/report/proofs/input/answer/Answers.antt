@@ -1,30 +1,26 @@
-use Rattle.std.proofs.Common.{◌<◌, length, arith, true-eqb, false-eqb}
+use Rattle.std.proofs.Common.{rules}
+use Rattle.std.proofs.lemmas.Result.{err_from_is_err_and}
 use Rattle.heads.specs.Arithmetics.{ArithmeticAnswer}
-use Rattle.report.specs.Input.{PlayAndLibrary}
-use Rattle.report.proofs.Inputs.{missing_told, unended_told, faulty_told, taken_told}
+use Rattle.heads.specs.Plays.{PlayAnswer}
+use Rattle.report.specs.Input.{LibraryAnswer, PlayAndLibrary}
+use Rattle.report.proofs.Inputs.{only_input, head_refused, head_passed}
 use Rattle.report.proofs.input.answer.Goals as goal
 
-pub returns-then-is_empty : goal.returns-then-is_empty
-returns-then-is_empty c =
-    let t = missing_told ArithmeticAnswer 1 PlayAndLibrary c.args.input.now c.at.result (true-eqb _ 0 c.if-is_empty.ensures) c.at.ensures.placed in
-    record { answer = t.0; only_answer = t.1 }
+pub returns-in_err-rest : goal.returns-in_err-rest
+returns-in_err-rest c =
+    let p = err_from_is_err_and c.from_residual.result c.from_residual.ensures.1 in
+    let a = head_refused ArithmeticAnswer 1 PlayAndLibrary _ c.args.input.now c.in_err-rest.field-0.0 c.in_err-rest.ensures.rest_or_fault (λ line r s. search rules) in
+    record { answer = rw (p.1, p.2) a; only_answer = rw (p.1, p.2) (only_input c.args.input.now _ a) }
 
-pub returns-in_default : goal.returns-in_default
-returns-in_default c =
-    let some : 0 < length c.args.input.now = omega (arith, false-eqb _ 0 c.if-is_empty.ensures) in
-    let t = unended_told ArithmeticAnswer 1 PlayAndLibrary c.args.input.now c.at-in_default.result some c.in_default.ensures.parts c.at-in_default.ensures.placed in
-    record { answer = t.0; only_answer = t.1 }
+pub returns-in_err-library : goal.returns-in_err-library
+returns-in_err-library c =
+    let p = err_from_is_err_and c.from_residual-in_err-library.result c.from_residual-in_err-library.ensures.1 in
+    let b = head_refused PlayAnswer 2 LibraryAnswer _ c.in_ok-rest.rest.now c.in_err-library.field-0.0 c.in_err-library.ensures.rest_or_fault (λ line r s. search rules) in
+    let a = head_passed ArithmeticAnswer 1 PlayAndLibrary _ c.args.input.now c.in_ok-rest.rest.now _ c.in_ok-rest.ensures.rest_or_fault (λ line r s. search rules) b in
+    record { answer = rw (p.1, p.2) a; only_answer = rw (p.1, p.2) (only_input c.args.input.now _ a) }
 
-pub returns-in-Ok : goal.returns-in-Ok
-returns-in-Ok c =
-    let parts = c.in-Some.ensures.parts in
-    let told = c.in-Ok.ensures in
-    let t = taken_told ArithmeticAnswer 1 PlayAndLibrary c.args.input.now c.in-Some.line.now c.in-Some.rest.now parts.0 parts.1 c.play_and_library.result _ told.answer told.only_answer c.play_and_library.ensures.answer c.play_and_library.ensures.only_answer in
-    record { answer = t.0; only_answer = t.1 }
-
-pub returns-in-Err : goal.returns-in-Err
-returns-in-Err c =
-    let parts = c.in-Some.ensures.parts in
-    let told = c.in-Err.ensures in
-    let t = faulty_told ArithmeticAnswer 1 PlayAndLibrary c.args.input.now c.in-Some.line.now c.in-Some.rest.now parts.0 parts.1 c.at-in-Err.result c.in-Err.fault told.answer told.only_answer c.at-in-Err.ensures.placed in
-    record { answer = t.0; only_answer = t.1 }
+pub returns : goal.returns
+returns c =
+    let b = head_passed PlayAnswer 2 LibraryAnswer _ c.in_ok-rest.rest.now c.in_ok-library.library.now c.library_answer.result c.in_ok-library.ensures.rest_or_fault (λ line r s. search rules) c.library_answer.ensures.answer in
+    let a = head_passed ArithmeticAnswer 1 PlayAndLibrary _ c.args.input.now c.in_ok-rest.rest.now _ c.in_ok-rest.ensures.rest_or_fault (λ line r s. search rules) b in
+    record { answer = a; only_answer = only_input c.args.input.now _ a }
