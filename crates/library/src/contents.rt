@@ -2,7 +2,6 @@
 ghost use Rattle.std.specs.Prelude.{◌≡◌, ℕ, Some, None, Option, MatchOption};
 ghost use Rattle.library.specs.Definitions.{SoundDefinitions};
 ghost use Rattle.library.specs.Held.{library_rows};
-ghost use Rattle.library.specs.Inference.{Sectioned};
 ghost use Rattle.library.specs.Listing.{global_term_at, global_type_at, method_at, method_type_at, term_at, type_form_at, variable_type_at};
 ghost use Rattle.library.specs.Mounting.{WellTyped};
 ghost use Rattle.library.specs.Typing.{HasType};
@@ -19,7 +18,6 @@ impl Library {
     // The rows, to be looked up.
     fn listing(&self) -> Listing
         ensures same_rows { result.rows.now ≡ library_rows self.now }
-        ensures sectioned { Sectioned result.rows.now result.counts }
         ensures well_typed { WellTyped (library_rows self.now) }
         ensures sound_definitions { SoundDefinitions (library_rows self.now) }
     {

@@ -1,6 +1,6 @@
 //! The rules for methods and globals, tried where the types and the free variables of all terms are known.
 ghost use Rattle.std.specs.Prelude.{◌≡◌, ℕ, ◌<◌, true, false, Some, MatchOption};
-ghost use Rattle.library.specs.Inference.{Sectioned, same_number};
+ghost use Rattle.library.specs.Inference.{same_number};
 ghost use Rattle.library.specs.Judging.{closed_function, global_stands, is_function, is_lam, is_num, method_stands, stands};
 ghost use Rattle.library.specs.Listing.{type_form_at};
 ghost use Rattle.rows.specs.declared.forms.Row.{Row};
@@ -50,7 +50,6 @@ fn is_empty_set(set: Option<u64>) -> bool
 impl Listing<'_> {
     // Whether the type of a number is a function type.
     fn is_function(self, number: u32) -> bool
-        requires sectioned { Sectioned self.rows.now self.counts }
         ensures function_form { result ≡ is_function (type_form_at self.entry.rows.now number) }
     {
         match self.type_form(number) {
@@ -61,7 +60,6 @@ impl Listing<'_> {
 
     // Whether a term is a closed function of a type.
     fn closed_function(self, terms: TermFacts, number: u32, term: u32) -> bool
-        requires sectioned { Sectioned self.rows.now self.counts }
         ensures closed_lam_of_type { result ≡ closed_function self.entry.rows.now terms.entry.types.now terms.entry.free.now number term }
     {
         self.is_function(number)
@@ -72,7 +70,6 @@ impl Listing<'_> {
 
     // Whether a method keeps its rule.
     fn method_stands(self, terms: TermFacts, form: MethodForm) -> bool
-        requires sectioned { Sectioned self.rows.now self.counts }
         ensures rule_of_methods { result ≡ method_stands self.entry.rows.now terms.entry.types.now terms.entry.free.now form }
     {
         match form {
@@ -85,7 +82,6 @@ impl Listing<'_> {
 
     // Whether a global of a type and a term keeps its rule.
     fn global_stands(self, terms: TermFacts, number: u32, term: u32) -> bool
-        requires sectioned { Sectioned self.rows.now self.counts }
         ensures rule_of_globals { result ≡ global_stands self.entry.rows.now terms.entry.types.now terms.entry.free.now number term }
     {
         let word = self.is_int(Some(number)) && is_num(self.term(term));
@@ -94,7 +90,6 @@ impl Listing<'_> {
 
     // Whether a row keeps its rule.
     fn stands(self, terms: TermFacts, row: Row) -> bool
-        requires sectioned { Sectioned self.rows.now self.counts }
         ensures rule_of_row { result ≡ stands self.entry.rows.now terms.entry.types.now terms.entry.free.now row }
     {
         match row {
@@ -106,7 +101,6 @@ impl Listing<'_> {
 
     // The place of the first row that breaks its rule.
     pub(crate) fn first_broken(self, terms: TermFacts) -> Option<usize>
-        requires sectioned { Sectioned self.rows.now self.counts }
         ensures all_before_stand { MatchOption result ((i : ℕ) (row : Row) → slice_get self.entry.rows.now i ≡ Some row → stands self.entry.rows.now terms.entry.types.now terms.entry.free.now row ≡ true) (λ place. ((i : ℕ) (row : Row) → i < place → slice_get self.entry.rows.now i ≡ Some row → stands self.entry.rows.now terms.entry.types.now terms.entry.free.now row ≡ true) × ((row : Row) × (slice_get self.entry.rows.now place ≡ Some row) × (stands self.entry.rows.now terms.entry.types.now terms.entry.free.now row ≡ false))) }
     {
         for (place, row) in self.rows.iter().enumerate() {

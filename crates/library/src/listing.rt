@@ -6,11 +6,12 @@ ghost use Rattle.std.specs.List.{slice_get};
 
 use rows::{Counts, MethodForm, Row, Section, TermForm, TypeForm};
 
-// Rows with the count of each section.
+// Rows that stand sorted into sections, with the count of each section.
 #[derive(Clone, Copy)]
 pub(crate) struct Listing<'a> {
     pub(crate) rows: &'a [Row],
     pub(crate) counts: Counts,
+    ghost sectioned: { Sectioned rows.now counts },
 }
 
 // The item at a place, or none past the end.
@@ -52,7 +53,6 @@ pub(crate) fn type_of_method(form: MethodForm) -> u32
 impl Listing<'_> {
     // The row of a section and a number.
     fn row(self, section: Section, number: u32) -> Option<Row>
-        requires sectioned { Sectioned self.rows.now self.counts }
         ensures row_of_number { result ≡ slice_get (section_rows section self.entry.rows.now) number }
     {
         if number >= self.counts.of(section) {
@@ -64,7 +64,6 @@ impl Listing<'_> {
 
     // The form of the type of a number.
     pub(crate) fn type_form(self, number: u32) -> Option<TypeForm>
-        requires sectioned { Sectioned self.rows.now self.counts }
         ensures form_of_type { result ≡ type_form_at self.entry.rows.now number }
     {
         match self.row(Section::Types, number) {
@@ -75,7 +74,6 @@ impl Listing<'_> {
 
     // The type of the variable of a number.
     pub(crate) fn variable_type(self, number: u32) -> Option<u32>
-        requires sectioned { Sectioned self.rows.now self.counts }
         ensures declared_type { result ≡ variable_type_at self.entry.rows.now number }
     {
         match self.row(Section::Variables, number) {
@@ -86,7 +84,6 @@ impl Listing<'_> {
 
     // The method of a number.
     pub(crate) fn method(self, number: u32) -> Option<MethodForm>
-        requires sectioned { Sectioned self.rows.now self.counts }
         ensures form_of_method { result ≡ method_at self.entry.rows.now number }
     {
         match self.row(Section::Methods, number) {
@@ -97,7 +94,6 @@ impl Listing<'_> {
 
     // The type of the method of a number.
     pub(crate) fn method_type(self, number: u32) -> Option<u32>
-        requires sectioned { Sectioned self.rows.now self.counts }
         ensures declared_type { result ≡ method_type_at self.entry.rows.now number }
     {
         match self.row(Section::Methods, number) {
@@ -108,7 +104,6 @@ impl Listing<'_> {
 
     // The type of the global of a number.
     pub(crate) fn global_type(self, number: u32) -> Option<u32>
-        requires sectioned { Sectioned self.rows.now self.counts }
         ensures declared_type { result ≡ global_type_at self.entry.rows.now number }
     {
         match self.row(Section::Globals, number) {
@@ -119,7 +114,6 @@ impl Listing<'_> {
 
     // The term of the global of a number.
     pub(crate) fn global_term(self, number: u32) -> Option<u32>
-        requires sectioned { Sectioned self.rows.now self.counts }
         ensures declared_term { result ≡ global_term_at self.entry.rows.now number }
     {
         match self.row(Section::Globals, number) {
@@ -130,7 +124,6 @@ impl Listing<'_> {
 
     // The term of a number.
     pub(crate) fn term(self, number: u32) -> Option<TermForm>
-        requires sectioned { Sectioned self.rows.now self.counts }
         ensures form_of_term { result ≡ term_at self.entry.rows.now number }
     {
         match self.row(Section::Terms, number) {
@@ -141,7 +134,6 @@ impl Listing<'_> {
 
     // Whether the type of a number has this form.
     fn is_type(self, number: u32, form: TypeForm) -> bool
-        requires sectioned { Sectioned self.rows.now self.counts }
         ensures has_form { MatchBool result (type_form_at self.entry.rows.now number ≡ Some form) (type_form_at self.entry.rows.now number ≢ Some form) }
     {
         match self.type_form(number) {
@@ -152,7 +144,6 @@ impl Listing<'_> {
 
     // The number of the type of this form.
     pub(crate) fn number_of(self, form: TypeForm) -> Option<u32>
-        requires sectioned { Sectioned self.rows.now self.counts }
         ensures number_of_type { result ≡ number_of_form self.entry.rows.now form }
     {
         for number in 0..self.counts.types {

@@ -1,6 +1,6 @@
 //! The types of terms, found in the order of the terms.
 ghost use Rattle.std.specs.Prelude.{◌≡◌, ℕ, length, if◌then◌else◌, Some, None, Err, MatchResult};
-ghost use Rattle.library.specs.Inference.{Sectioned, TypedBy, by_number, first_part, form_named, function_of, is_form, is_int, pair_of, result_for, same_number, second_part, settled, type_of, wanted};
+ghost use Rattle.library.specs.Inference.{TypedBy, by_number, first_part, form_named, function_of, is_form, is_int, pair_of, result_for, same_number, second_part, settled, type_of, wanted};
 ghost use Rattle.rows.specs.declared.forms.TermForm.TheVariants.{If};
 ghost use Rattle.rows.specs.declared.forms.TypeForm.TheVariants.{Int as IntType, Unit as UnitType};
 ghost use Rattle.library.specs.declared.wanted.Wanted.TheVariants.{Form};
@@ -117,7 +117,6 @@ fn type_so_far(known: &[u32], term: u32) -> Option<u32>
 impl Listing<'_> {
     // The form of a type that may be there.
     fn form_named(self, number: Option<u32>) -> Option<TypeForm>
-        requires sectioned { Sectioned self.rows.now self.counts }
         ensures form_of_type { result ≡ form_named self.entry.rows.now number }
     {
         match number {
@@ -128,7 +127,6 @@ impl Listing<'_> {
 
     // Whether a type is int.
     pub(crate) fn is_int(self, number: Option<u32>) -> bool
-        requires sectioned { Sectioned self.rows.now self.counts }
         ensures int_form { result ≡ is_int self.entry.rows.now number }
     {
         match self.form_named(number) {
@@ -145,7 +143,6 @@ impl Listing<'_> {
         left: u32,
         right: u32,
     ) -> Option<Wanted>
-        requires sectioned { Sectioned self.rows.now self.counts }
         ensures by_its_rule { result ≡ wanted self.entry.rows.now known.now (If condition left right) }
     {
         let branch = type_so_far(known, left);
@@ -156,7 +153,6 @@ impl Listing<'_> {
 
     // The type that a term has by its rule, where the types of the terms before it are known.
     fn type_by_rule(self, known: &[u32], form: TermForm) -> Option<Wanted>
-        requires sectioned { Sectioned self.rows.now self.counts }
         ensures by_its_rule { result ≡ wanted self.entry.rows.now known.now form }
     {
         match form {
@@ -195,7 +191,6 @@ impl Listing<'_> {
 
     // The number of a term's type, where the types of the terms before it are known.
     fn type_of(self, known: &[u32], form: TermForm) -> Result<u32, TypingFault>
-        requires sectioned { Sectioned self.rows.now self.counts }
         ensures listed_type { result ≡ type_of self.entry.rows.now known.now form }
     {
         match self.type_by_rule(known, form) {
@@ -210,7 +205,6 @@ impl Listing<'_> {
 
     // The numbers of the types of all terms, or the first fault of a term's typing.
     pub(crate) fn types_of_terms(self, heap: Global) -> Result<Vec<u32>, MountFault>
-        requires sectioned { Sectioned self.rows.now self.counts }
         requires faultless { Faultless self.rows.now }
         ensures types_or_first_fault { MatchResult result (λ known. TypedBy self.entry.rows.now known.items × (length known.items ≡ length (section_rows Terms self.entry.rows.now))) (λ fault. Mounts self.entry.rows.now (Err fault)) }
     {

@@ -12,15 +12,13 @@ use Rattle.library.proofs.Trials.{answered}
 use Rattle.library.proofs.Unique.{one_type}
 use Rattle.library.proofs.mounting.drafted.Goals as goal
 
-pub types_of_terms-requires : goal.types_of_terms-requires
-types_of_terms-requires c =
-    let given = c.in_ok-tally.ensures.tally_or_first_fault in
-    record { sectioned = subst (Sectioned c.args.rows.now) (sym c.counts.ensures.counts_of_tally) (sectioned c.args.rows.now given.0 _ given.1.counts); faultless = given.0 }
-
-pub first_broken-requires : goal.first_broken-requires
-first_broken-requires c =
+pub invariant_of-listing : goal.invariant_of-listing
+invariant_of-listing c =
     let given = c.in_ok-tally.ensures.tally_or_first_fault in
     record { sectioned = subst (Sectioned c.args.rows.now) (sym c.counts.ensures.counts_of_tally) (sectioned c.args.rows.now given.0 _ given.1.counts) }
+
+pub types_of_terms-requires : goal.types_of_terms-requires
+types_of_terms-requires c = record { faultless = c.in_ok-tally.ensures.tally_or_first_fault.0 }
 
 pub fault_of_row-requires : goal.fault_of_row-requires
 fault_of_row-requires c =

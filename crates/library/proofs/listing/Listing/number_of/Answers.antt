@@ -9,5 +9,5 @@ returns-then-is_type c = record { number_of_type = sym (first_found c.args.form 
 
 pub returns : goal.returns
 returns c =
-    let all : length (section_rows Types c.args.self.rows.now) ≤ c.loop-number.number = omega (arith, c.requires.sectioned.counts Types) in
+    let all : length (section_rows Types c.args.self.rows.now) ≤ c.loop-number.number = omega (arith, c.args.self.sectioned.counts Types) in
     record { number_of_type = sym (none_found c.args.form (section_rows Types c.args.self.rows.now) c.loop-number.number all c.loop-number.invariant) }

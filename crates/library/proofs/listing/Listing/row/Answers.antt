@@ -8,11 +8,11 @@ use Rattle.library.proofs.listing.Listing.row.Goals as goal
 
 pub returns-then-number-of : goal.returns-then-number-of
 returns-then-number-of c =
-    let past : length (section_rows c.args.section c.args.self.rows.now) ≤ c.args.number = omega (arith, c.requires.sectioned.counts c.args.section, c.of.ensures.count_of_section) in
+    let past : length (section_rows c.args.section c.args.self.rows.now) ≤ c.args.number = omega (arith, c.args.self.sectioned.counts c.args.section, c.of.ensures.count_of_section) in
     record { row_of_number = sym (slice_get_past (section_rows c.args.section c.args.self.rows.now) c.args.number past) }
 
 pub returns : goal.returns
 returns c =
     let there : c.args.number < counted c.args.self.counts c.args.section = omega (arith, c.of.ensures.count_of_section) in
     let place : c.rows_before.result + c.from.result ≡ start c.args.self.counts c.args.section + c.args.number = omega (arith, c.rows_before.ensures.start_of_section, c.from.ensures) in
-    record { row_of_number = c.item.ensures.item_at_place ∙ ap (slice_get c.args.self.rows.now) place ∙ c.requires.sectioned.together c.args.section c.args.number there }
+    record { row_of_number = c.item.ensures.item_at_place ∙ ap (slice_get c.args.self.rows.now) place ∙ c.args.self.sectioned.together c.args.section c.args.number there }
