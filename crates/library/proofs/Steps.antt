@@ -1,5 +1,5 @@
 -- What one row more adds to what is known of the rows before it. Assumes nothing.
-use Rattle.std.proofs.Common.{◌≡◌, ℕ, suc, ◌+◌, ◌-◌, ◌^◌, ◌<◌, ◌≤◌, true, cond, eqb, List, [], ◌∷◌, ◌++◌, length, get_or, take, Some, Ok, Err, sym, refl, ap, ◌∙◌, subst, ⊎_elim, add-one, arith, length-append}
+use Rattle.std.proofs.Common.{◌≡◌, ℕ, suc, ◌+◌, ◌^◌, ◌<◌, ◌≤◌, true, cond, eqb, List, [], ◌∷◌, ◌++◌, length, get_or, take, Some, Ok, Err, sym, refl, ap, ◌∙◌, subst, ⊎_elim, add-one, arith, length-append}
 use Rattle.std.specs.List.{slice_get}
 use Rattle.std.proofs.lemmas.Option.{slice_get-get_or}
 use Rattle.faults.specs.declared.TypingFault.{TypingFault}
@@ -78,30 +78,20 @@ number_least before row out = record { here = out; none_smaller = smaller }
     smaller Limit lt f = absurd (omega arith)
     smaller Repeat lt f = absurd (omega arith)
 
--- a part from the start, as the code takes it
-from_start : {X : Type 0} (n : ℕ) (xs : List X) → take (n - 0) xs ≡ take n xs
-from_start n xs = let e : n - 0 ≡ n = omega arith in ap (λ k. take k xs) e
-
 -- the row that a read past the end would give
 abbrev pub blank : Row
 blank = TypeRow 0 UnitType
 
-pub tallied_start : (rows : List Row) (k : ℕ) (c : Counts) (table : List ℕ) → Tallied (take k rows) c table → Tallied (take (k - 0) rows) c table
-tallied_start rows k c table h = subst (λ rs. Tallied rs c table) (sym (from_start k rows)) h
-
-pub admitted_next : (rows : List Row) (k : ℕ) (c : Counts) (table : List ℕ) → k < length rows → Faultless (take k rows) → NoneOf (RowFault true (take (k - 0) rows) (get_or rows k blank)) × Tallied (take (k - 0) rows ++ (get_or rows k blank ∷ [])) c table → Faultless (take (k + 1) rows) × Tallied (take (k + 1) rows) c table
+pub admitted_next : (rows : List Row) (k : ℕ) (c : Counts) (table : List ℕ) → k < length rows → Faultless (take k rows) → NoneOf (RowFault true (take k rows) (get_or rows k blank)) × Tallied (take k rows ++ (get_or rows k blank ∷ [])) c table → Faultless (take (k + 1) rows) × Tallied (take (k + 1) rows) c table
 admitted_next rows k c table lt h given =
-    let before = from_start k rows in
-    let more = take_more rows k blank lt in (
-      subst Faultless (sym more) (faultless_push (take k rows) (get_or rows k blank) h (subst (λ rs. NoneOf (RowFault true rs (get_or rows k blank))) before given.0)),
-      subst (λ rs. Tallied rs c table) (ap (λ rs. rs ++ (get_or rows k blank ∷ [])) before ∙ sym more) given.1,
-    )
+    let more = take_more rows k blank lt in
+    (subst Faultless (sym more) (faultless_push (take k rows) (get_or rows k blank) h given.0), subst (λ rs. Tallied rs c table) (sym more) given.1)
 
 pub place_few : (rows : List Row) (k : ℕ) → k ≤ length rows → Faultless (take k rows) → k < 65536
 place_few rows k le h = omega (arith, few_rows (take k rows) h, length-take-le k rows le)
 
-pub text_refused : (rows : List Row) (i : ℕ) (d : Row) → i < length rows → Faultless (take i rows) → (fault : TextFault) → Least (RowFault true (take (i - 0) rows) (get_or rows i d)) fault → (answer : MountFault) → answer ≡ Refused (record { place = i + 1; fault = Text fault }) → Mounts rows (Err answer)
-text_refused rows i d lt before fault least answer e = subst (λ a. Mounts rows (Err a)) (sym e) (i, refl, text_first rows i (get_or rows i d) (slice_get-get_or rows i d lt) before fault (subst (λ rs. Least (RowFault true rs (get_or rows i d)) fault) (from_start i rows) least))
+pub text_refused : (rows : List Row) (i : ℕ) (d : Row) → i < length rows → Faultless (take i rows) → (fault : TextFault) → Least (RowFault true (take i rows) (get_or rows i d)) fault → (answer : MountFault) → answer ≡ Refused (record { place = i + 1; fault = Text fault }) → Mounts rows (Err answer)
+text_refused rows i d lt before fault least answer e = subst (λ a. Mounts rows (Err a)) (sym e) (i, refl, text_first rows i (get_or rows i d) (slice_get-get_or rows i d lt) before fault least)
 
 module _ (rows : List Row) (fine : Faultless rows) (i : ℕ) where
   -- a row that is no term

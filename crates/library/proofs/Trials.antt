@@ -1,6 +1,8 @@
 -- Which fault of rows is the first. Assumes nothing.
-use Rattle.std.proofs.Common.{◌≡◌, ℕ, ◌<◌, true, cond, eqb, ◌⊎◌, List, length, take, Some, Ok, Err, Result, sym, refl, ap, ◌∙◌, subst, inl, inr, ⊎_elim, arith}
+use Rattle.std.proofs.Common.{◌≡◌, ℕ, ◌<◌, true, cond, eqb, ◌⊎◌, List, length, take, Some, Ok, Err, Result, MatchResult, sym, refl, ap, ◌∙◌, subst, inl, inr, ⊎_elim, arith}
 use Rattle.std.specs.List.{slice_get}
+use Rattle.std.specs.Result.{IsErrAnd}
+use Rattle.std.proofs.lemmas.Result.{err_from_is_err_and}
 use Rattle.faults.specs.declared.TypingFault.TheVariants.{Parts, Unlisted, Definition}
 use Rattle.rows.specs.declared.forms.TermForm.{TermForm}
 use Rattle.rows.specs.declared.forms.Row.{Row}
@@ -180,3 +182,9 @@ one_answer rows (Err Memory) other a b p q = absurd (p refl)
 
 pub answered : (rows : List Row) (answer : Result (Unit {0}) MountFault) → Mounts rows answer → Answered rows answer
 answered rows answer m = record { mounts = m; no_other = λ other n p q. one_answer rows other answer n m p q }
+
+-- the same for a fault that a `?` hands on
+pub answered_exit : {T : Type 0} (rows : List Row) (P : T → Type 0) (result : Result T MountFault) (fault : MountFault) → IsErrAnd result (λ told. told ≡ fault) → Mounts rows (Err fault) → MatchResult result P (λ told. Answered rows (Err told))
+answered_exit rows P result fault exit mounts =
+    let p = err_from_is_err_and result exit in
+    rw (p.1, p.2) (answered rows (Err fault) mounts)

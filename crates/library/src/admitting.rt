@@ -25,10 +25,10 @@ pub(crate) fn admit_all(rows: &[Row]) -> Result<Tally, MountFault>
 {
     let mut tally = Tally::new();
     for (place, row) in rows.iter().enumerate() {
-        match admit(tally, &rows[0..place], *row) {
-            Ok(next) => tally = next,
-            Err(fault) => return Err(fault_of_row(place, LibraryFault::Text(fault))),
-        }
+        tally = admit(tally, &rows[..place], *row).map_err(move |fault| fault_of_row(
+            place,
+            LibraryFault::Text(fault),
+        ))?;
     }
     Ok(tally)
 }

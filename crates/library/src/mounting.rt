@@ -19,8 +19,7 @@ use std::alloc::Global;
 
 // Makes a library of rows.
 fn drafted(heap: Global, rows: &[Row]) -> Result<Library, MountFault>
-    ensures library_or_first_fault { MatchResult result (λ library. (library_rows library ≡ rows.now) × Answered rows.now (Ok tt) × SoundDefinitions rows.now) (λ fault. Answered rows.now (Err fault)) }
-    ensures one_type_each { OneType }
+    ensures { MatchResult result (λ library. (library_rows library ≡ rows.now) × Answered rows.now (Ok tt) × SoundDefinitions rows.now) (λ fault. Answered rows.now (Err fault)) }
 {
     let tally = admit_all(rows)?;
     let listing = Listing {
@@ -36,11 +35,8 @@ fn drafted(heap: Global, rows: &[Row]) -> Result<Library, MountFault>
     if let Some(place) = listing.first_broken(terms) {
         return Err(fault_of_row(place, LibraryFault::Typing(TypingFault::Definition)));
     }
-    let Ok(rows) = rows.to_vec(heap) else {
-        return Err(MountFault::Memory);
-    };
     Ok(Library {
-        rows,
+        rows: rows.to_vec(heap)?,
         term_types,
         tally,
     })
@@ -60,6 +56,7 @@ impl Library {
 
     /// Puts a library of these rows in the place of this one, where they are well-formed and well-typed. Rows with a fault
     /// are refused for the first one, at its line, and the old library stays, as it does where memory runs out.
+    #[tactic(auto, using(crate::proofs::Unique::one_type))]
     pub fn mount(&mut self, rows: &[Row]) -> Result<(), MountFault>
         ensures answer { Mounts rows.now result }
         ensures no_other_answer { (answer : Result (Unit {0}) MountFault) → Mounts rows.now answer → (answer ≢ Err Memory) → (result ≢ Err Memory) → answer ≡ result }
@@ -67,12 +64,7 @@ impl Library {
         ensures granted_definitions { OnOk result (SoundDefinitions rows.now) }
         ensures one_type_each { OneType }
     {
-        match drafted(*self.rows.allocator(), rows) {
-            Ok(library) => {
-                *self = library;
-                Ok(())
-            }
-            Err(fault) => Err(fault),
-        }
+        *self = drafted(*self.rows.allocator(), rows)?;
+        Ok(())
     }
 }

@@ -69,9 +69,7 @@ pub(crate) fn free_variables(heap: Global, rows: &[Row]) -> Result<Vec<u64>, Mou
     for row in rows {
         if let Row::Term(_, form) = *row {
             let set = free_in(&known, form);
-            if known.push(set).is_err() {
-                return Err(MountFault::Memory);
-            }
+            known.push(set)?;
         }
     }
     Ok(known)

@@ -211,14 +211,11 @@ impl Listing<'_> {
         let mut known = Vec::new(heap);
         for (place, row) in self.rows.iter().enumerate() {
             if let Row::Term(_, form) = *row {
-                match self.type_of(&known, form) {
-                    Ok(number) => {
-                        if known.push(number).is_err() {
-                            return Err(MountFault::Memory);
-                        }
-                    }
-                    Err(fault) => return Err(fault_of_row(place, LibraryFault::Typing(fault))),
-                }
+                let number = self.type_of(&known, form).map_err(move |fault| fault_of_row(
+                    place,
+                    LibraryFault::Typing(fault),
+                ))?;
+                known.push(number)?;
             }
         }
         Ok(known)

@@ -4,12 +4,10 @@ use Rattle.rows.specs.Tallies.{CountsOf}
 use Rattle.library.specs.Inference.{LeavesBy, Sectioned, TypedBy}
 use Rattle.library.specs.Mounting.{Mounts, WellTyped}
 use Rattle.library.specs.declared.refusal.MountFault.TheVariants.{Memory}
-use Rattle.std.proofs.lemmas.Result.{err_from_is_err_and}
 use Rattle.library.proofs.Lists.{nth_inside}
 use Rattle.library.proofs.Sorted.{count_length, few_rows, sectioned}
 use Rattle.library.proofs.Granting.{found_through, granted_definitions, granted_rows, refused_by}
-use Rattle.library.proofs.Trials.{answered}
-use Rattle.library.proofs.Unique.{one_type}
+use Rattle.library.proofs.Trials.{answered, answered_exit}
 use Rattle.library.proofs.mounting.drafted.Goals as goal
 
 pub invariant_of-listing : goal.invariant_of-listing
@@ -30,14 +28,14 @@ pub returns-in-Some : goal.returns-in-Some
 returns-in-Some c =
     let given = c.in_ok-tally.ensures.tally_or_first_fault in
     let found = found_through c.args.rows.now _ _ _ _ c.deref.ensures.value c.deref-2.ensures.value c.in_ok-term_types.ensures.types_or_first_fault c.in_ok-free.ensures.sets_of_terms in
-    record { library_or_first_fault = answered c.args.rows.now (Err c.fault_of_row.result) (refused_by c.args.rows.now given.0 _ _ found c.in-Some.place c.in-Some.ensures.all_before_stand _ c.fault_of_row.ensures.fault_at_line); one_type_each = one_type }
+    answered c.args.rows.now (Err c.fault_of_row.result) (refused_by c.args.rows.now given.0 _ _ found c.in-Some.place c.in-Some.ensures.all_before_stand _ c.fault_of_row.ensures.fault_at_line)
 
 pub invariant_of-result : goal.invariant_of-result
 invariant_of-result c =
     let given = c.in_ok-tally.ensures.tally_or_first_fault in
     let types = c.in_ok-term_types.ensures.types_or_first_fault in
     let found = found_through c.args.rows.now _ _ _ _ c.deref.ensures.value c.deref-2.ensures.value types c.in_ok-free.ensures.sets_of_terms in
-    let same : vec_items c.in-Ok.rows ≡ c.args.rows.now = c.in-Ok.ensures.items_if_clones_equal (λ x y e. e) in
+    let same : vec_items c.in_ok-to_vec.field-0 ≡ c.args.rows.now = c.in_ok-to_vec.ensures.items_if_clones_equal (λ x y e. e) in
     record {
       well_typed = subst WellTyped (sym same) (granted_rows c.args.rows.now given.0 _ _ found c.in_default.ensures.all_before_stand);
       counted = subst (λ rs. CountsOf rs c.in_ok-tally.tally.counts) (sym same) given.1.counts;
@@ -49,30 +47,21 @@ invariant_of-result c =
 pub returns : goal.returns
 returns c =
     let given = c.in_ok-tally.ensures.tally_or_first_fault in
-    let found = found_through c.args.rows.now _ _ _ _ c.deref.ensures.value c.deref-2.ensures.value c.in_ok-term_types.ensures.types_or_first_fault c.in_ok-free.ensures.sets_of_terms in
-    record {
-      library_or_first_fault = (
-        c.in-Ok.ensures.items_if_clones_equal (λ x y e. e),
-        answered c.args.rows.now (Ok tt) (granted_rows c.args.rows.now given.0 _ _ found c.in_default.ensures.all_before_stand),
-        granted_definitions c.args.rows.now given.0 _ _ found c.in_default.ensures.all_before_stand,
-      );
-      one_type_each = one_type;
-    }
+    let found = found_through c.args.rows.now _ _ _ _ c.deref.ensures.value c.deref-2.ensures.value c.in_ok-term_types.ensures.types_or_first_fault c.in_ok-free.ensures.sets_of_terms in (
+      c.in_ok-to_vec.ensures.items_if_clones_equal (λ x y e. e),
+      answered c.args.rows.now (Ok tt) (granted_rows c.args.rows.now given.0 _ _ found c.in_default.ensures.all_before_stand),
+      granted_definitions c.args.rows.now given.0 _ _ found c.in_default.ensures.all_before_stand,
+    )
 
 pub returns-in_err-tally : goal.returns-in_err-tally
-returns-in_err-tally c =
-    let p = err_from_is_err_and c.from_residual.result c.from_residual.ensures.1 in
-    rw (p.1, p.2) (record { library_or_first_fault = answered c.args.rows.now _ c.in_err-tally.ensures.tally_or_first_fault; one_type_each = one_type })
+returns-in_err-tally c = answered_exit c.args.rows.now _ _ _ c.from_residual.ensures.1 c.in_err-tally.ensures.tally_or_first_fault
 
 pub returns-in_err-term_types : goal.returns-in_err-term_types
-returns-in_err-term_types c =
-    let p = err_from_is_err_and c.from_residual-in_err-term_types.result c.from_residual-in_err-term_types.ensures.1 in
-    rw (p.1, p.2) (record { library_or_first_fault = answered c.args.rows.now _ c.in_err-term_types.ensures.types_or_first_fault; one_type_each = one_type })
+returns-in_err-term_types c = answered_exit c.args.rows.now _ _ _ c.from_residual-in_err-term_types.ensures.1 c.in_err-term_types.ensures.types_or_first_fault
 
 pub returns-in_err-free : goal.returns-in_err-free
 returns-in_err-free c =
-    let p = err_from_is_err_and c.from_residual-in_err-free.result c.from_residual-in_err-free.ensures.1 in
-    rw (p.1, p.2) (record { library_or_first_fault = answered c.args.rows.now _ (subst (λ f. Mounts c.args.rows.now (Err f)) (sym c.in_err-free.ensures.sets_of_terms) tt); one_type_each = one_type })
+    answered_exit c.args.rows.now _ _ _ c.from_residual-in_err-free.ensures.1 (subst (λ f. Mounts c.args.rows.now (Err f)) (sym c.in_err-free.ensures.sets_of_terms) tt)
 
-pub returns-in_default-to_vec : goal.returns-in_default-to_vec
-returns-in_default-to_vec c = record { library_or_first_fault = answered c.args.rows.now (Err Memory) tt; one_type_each = one_type }
+pub returns-in_err-to_vec : goal.returns-in_err-to_vec
+returns-in_err-to_vec c = answered_exit c.args.rows.now _ _ Memory c.from_residual-in_err-to_vec.ensures.1 tt
