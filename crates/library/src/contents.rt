@@ -11,7 +11,7 @@ ghost use Rattle.std.specs.List.{slice_get};
 ghost use Rattle.std.specs.Option.{option_map};
 
 use super::library::Library;
-use super::listing::{Listing, item};
+use super::listing::Listing;
 use rows::{Counts, MethodForm, Row, Tally, TermForm, TypeForm};
 
 impl Library {
@@ -119,6 +119,6 @@ impl Library {
     pub fn term_type(&self, number: u32) -> Option<u32>
         ensures type_of_term { MatchOption result (term_at (library_rows self.now) number ≡ None) (λ n. (type : Tree) × (slice_get (types (library_rows self.now)) n ≡ Some type) × HasType (library_rows self.now) number type) }
     {
-        item(self.types(), number as usize)
+        self.types().get(number as usize).copied()
     }
 }

@@ -6,8 +6,7 @@ ghost use Rattle.library.specs.Listing.{type_form_at};
 ghost use Rattle.rows.specs.declared.forms.Row.{Row};
 ghost use Rattle.std.specs.List.{slice_get};
 
-use super::listing::{Listing, item};
-use super::typing::same_number;
+use super::listing::Listing;
 use rows::{MethodForm, Row, TermForm, TypeForm};
 
 // What is known of all terms: the numbers of their types, and their free variables.
@@ -17,45 +16,12 @@ pub(crate) struct TermFacts<'a> {
     pub(crate) free: &'a [u64],
 }
 
-// Whether a term is a `lam`.
-fn is_lam(term: Option<TermForm>) -> bool
-    ensures form_of_lam { result ≡ is_lam term }
-{
-    match term {
-        Some(TermForm::Lam(_, _)) => true,
-        _ => false,
-    }
-}
-
-// Whether a term is a number.
-fn is_num(term: Option<TermForm>) -> bool
-    ensures form_of_num { result ≡ is_num term }
-{
-    match term {
-        Some(TermForm::Num(_)) => true,
-        _ => false,
-    }
-}
-
-// Whether a set of variables is there and is empty.
-fn is_empty_set(set: Option<u64>) -> bool
-    ensures no_variable { result ≡ same_number (Some 0) set }
-{
-    match set {
-        Some(bits) => 0 == bits,
-        None => false,
-    }
-}
-
 impl Listing<'_> {
     // Whether the type of a number is a function type.
     fn is_function(self, number: u32) -> bool
         ensures function_form { result ≡ is_function (type_form_at self.entry.rows.now number) }
     {
-        match self.type_form(number) {
-            Some(TypeForm::Fun(_, _)) => true,
-            _ => false,
-        }
+        matches!(self.type_form(number), Some(TypeForm::Fun(_, _)))
     }
 
     // Whether a term is a closed function of a type.
@@ -63,9 +29,9 @@ impl Listing<'_> {
         ensures closed_lam_of_type { result ≡ closed_function self.entry.rows.now terms.entry.types.now terms.entry.free.now number term }
     {
         self.is_function(number)
-            && is_lam(self.term(term))
-            && same_number(Some(number), item(terms.types, term as usize))
-            && is_empty_set(item(terms.free, term as usize))
+            && matches!(self.term(term), Some(TermForm::Lam(_, _)))
+            && terms.types.get(term as usize).copied() == Some(number)
+            && terms.free.get(term as usize).copied() == Some(0)
     }
 
     // Whether a method keeps its rule.
@@ -84,7 +50,8 @@ impl Listing<'_> {
     fn global_stands(self, terms: TermFacts, number: u32, term: u32) -> bool
         ensures rule_of_globals { result ≡ global_stands self.entry.rows.now terms.entry.types.now terms.entry.free.now number term }
     {
-        let word = self.is_int(Some(number)) && is_num(self.term(term));
+        let word = self.type_form(number) == Some(TypeForm::Int)
+            && matches!(self.term(term), Some(TermForm::Num(_)));
         word || self.closed_function(terms, number, term)
     }
 

@@ -14,17 +14,6 @@ pub(crate) struct Listing<'a> {
     ghost sectioned: { Sectioned rows.now counts },
 }
 
-// The item at a place, or none past the end.
-pub(crate) fn item<T: Copy>(items: &[T], place: usize) -> Option<T>
-    ensures item_at_place { result ≡ slice_get items.now place }
-{
-    if place < items.len() {
-        Some(items[place])
-    } else {
-        None
-    }
-}
-
 // How many rows stand before a section.
 fn rows_before(counts: Counts, section: Section) -> u64
     ensures start_of_section { result ≡ start counts section }
@@ -59,15 +48,15 @@ impl Listing<'_> {
             return None;
         }
         let place = rows_before(self.counts, section) + u64::from(number);
-        item(self.rows, place as usize)
+        self.rows.get(place as usize).copied()
     }
 
     // The form of the type of a number.
     pub(crate) fn type_form(self, number: u32) -> Option<TypeForm>
         ensures form_of_type { result ≡ type_form_at self.entry.rows.now number }
     {
-        match self.row(Section::Types, number) {
-            Some(Row::Type(_, form)) => Some(form),
+        match self.row(Section::Types, number)? {
+            Row::Type(_, form) => Some(form),
             _ => None,
         }
     }
@@ -76,8 +65,8 @@ impl Listing<'_> {
     pub(crate) fn variable_type(self, number: u32) -> Option<u32>
         ensures declared_type { result ≡ variable_type_at self.entry.rows.now number }
     {
-        match self.row(Section::Variables, number) {
-            Some(Row::Variable(_, of)) => Some(of),
+        match self.row(Section::Variables, number)? {
+            Row::Variable(_, of) => Some(of),
             _ => None,
         }
     }
@@ -86,8 +75,8 @@ impl Listing<'_> {
     pub(crate) fn method(self, number: u32) -> Option<MethodForm>
         ensures form_of_method { result ≡ method_at self.entry.rows.now number }
     {
-        match self.row(Section::Methods, number) {
-            Some(Row::Method(_, form)) => Some(form),
+        match self.row(Section::Methods, number)? {
+            Row::Method(_, form) => Some(form),
             _ => None,
         }
     }
@@ -96,18 +85,15 @@ impl Listing<'_> {
     pub(crate) fn method_type(self, number: u32) -> Option<u32>
         ensures declared_type { result ≡ method_type_at self.entry.rows.now number }
     {
-        match self.row(Section::Methods, number) {
-            Some(Row::Method(_, form)) => Some(type_of_method(form)),
-            _ => None,
-        }
+        self.method(number).map(type_of_method)
     }
 
     // The type of the global of a number.
     pub(crate) fn global_type(self, number: u32) -> Option<u32>
         ensures declared_type { result ≡ global_type_at self.entry.rows.now number }
     {
-        match self.row(Section::Globals, number) {
-            Some(Row::Global(_, of, _)) => Some(of),
+        match self.row(Section::Globals, number)? {
+            Row::Global(_, of, _) => Some(of),
             _ => None,
         }
     }
@@ -116,8 +102,8 @@ impl Listing<'_> {
     pub(crate) fn global_term(self, number: u32) -> Option<u32>
         ensures declared_term { result ≡ global_term_at self.entry.rows.now number }
     {
-        match self.row(Section::Globals, number) {
-            Some(Row::Global(_, _, term)) => Some(term),
+        match self.row(Section::Globals, number)? {
+            Row::Global(_, _, term) => Some(term),
             _ => None,
         }
     }
@@ -126,8 +112,8 @@ impl Listing<'_> {
     pub(crate) fn term(self, number: u32) -> Option<TermForm>
         ensures form_of_term { result ≡ term_at self.entry.rows.now number }
     {
-        match self.row(Section::Terms, number) {
-            Some(Row::Term(_, form)) => Some(form),
+        match self.row(Section::Terms, number)? {
+            Row::Term(_, form) => Some(form),
             _ => None,
         }
     }
@@ -136,10 +122,7 @@ impl Listing<'_> {
     fn is_type(self, number: u32, form: TypeForm) -> bool
         ensures has_form { MatchBool result (type_form_at self.entry.rows.now number ≡ Some form) (type_form_at self.entry.rows.now number ≢ Some form) }
     {
-        match self.type_form(number) {
-            Some(listed) => listed == form,
-            None => false,
-        }
+        self.type_form(number) == Some(form)
     }
 
     // The number of the type of this form.

@@ -8,7 +8,6 @@ ghost use Rattle.rows.specs.declared.forms.Section.TheVariants.{Terms};
 ghost use Rattle.std.specs.List.{slice_get};
 ghost use Rattle.std.specs.Option.{unwrap_or};
 
-use super::listing::item;
 use super::refusal::MountFault;
 use rows::{Row, TermForm};
 use std::alloc::Global;
@@ -31,7 +30,7 @@ fn without(set: u64, variable: u32) -> u64
 fn free_so_far(known: &[u64], term: u32) -> u64
     ensures known_set { result ≡ unwrap_or (slice_get known.now term) 0 }
 {
-    item(known, term as usize).unwrap_or(0)
+    known.get(term as usize).copied().unwrap_or(0)
 }
 
 // The free variables of two earlier terms.
