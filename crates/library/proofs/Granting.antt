@@ -1,12 +1,12 @@
 -- What follows where all terms are typed. Assumes nothing.
-use Rattle.std.proofs.Common.{◌≡◌, ℕ, ◌+◌, ◌<◌, true, false, List, length, Some, Err, sym, refl, ap, ◌∙◌, subst, arith}
-use Rattle.std.specs.List.{slice_get}
+use Rattle.std.proofs.Common.{◌≡◌, ℕ, ◌+◌, ◌<◌, true, false, List, length, not, Some, None, Err, sym, refl, ap, ◌∙◌, subst, arith}
+use Rattle.std.specs.List.{position, slice_get}
 use Rattle.faults.specs.declared.TypingFault.TheVariants.{Definition}
 use Rattle.rows.specs.declared.forms.Row.{Row}
 use Rattle.rows.specs.declared.forms.Section.TheVariants.{Terms}
 use Rattle.rows.specs.Faults.{Faultless}
 use Rattle.library.specs.Listing.{section_rows, global_type_at}
-use Rattle.library.proofs.Lists.{some_same}
+use Rattle.library.proofs.Lists.{all_pass, first_fails, some_same}
 use Rattle.faults.specs.declared.LibraryFault.TheVariants.{Typing}
 use Rattle.rows.specs.declared.forms.MethodForm.{MethodForm}
 use Rattle.rows.specs.declared.forms.Row.TheVariants.{Method as MethodRow, Global as GlobalRow}
@@ -68,11 +68,14 @@ found_through rows known sets seen read e f t s =
     subst (λ ks. Found rows ks read) (sym e) (subst (λ ss. Found rows known ss) (sym f) (record { typed = t.0; long = t.1; scoped = s.0; all = s.1; small = s.2 }))
 
 module _ (rows : List Row) (fine : Faultless rows) (known sets : List ℕ) (h : Found rows known sets) where
-  pub refused_by : (i : ℕ) → ((j : ℕ) (row : Row) → j < i → slice_get rows j ≡ Some row → stands rows known sets row ≡ true) × ((row : Row) × (slice_get rows i ≡ Some row) × (stands rows known sets row ≡ false)) → (told : MountFault) → told ≡ Refused (record { place = i + 1; fault = Typing Definition }) → Mounts rows (Err told)
-  refused_by i b told e = definition_refused rows fine known sets h.typed h.long h.scoped h.all h.small i b.0 b.1.0 b.1.1 b.1.2 told e
+  pub refused_by : (i : ℕ) → position (λ row. not (stands rows known sets row)) rows ≡ Some i → (told : MountFault) → told ≡ Refused (record { place = i + 1; fault = Typing Definition }) → Mounts rows (Err told)
+  refused_by i found told e =
+      let b = first_fails (stands rows known sets) rows i found in
+      definition_refused rows fine known sets h.typed h.long h.scoped h.all h.small i b.0 b.1.0 b.1.1 b.1.2 told e
 
-  pub granted_rows : ((j : ℕ) (row : Row) → slice_get rows j ≡ Some row → stands rows known sets row ≡ true) → WellTyped rows
-  granted_rows kept = well_typed rows fine known sets h.typed h.long h.scoped h.all h.small kept
+  module _ (none : position (λ row. not (stands rows known sets row)) rows ≡ None) where
+    pub granted_rows : WellTyped rows
+    granted_rows = well_typed rows fine known sets h.typed h.long h.scoped h.all h.small (all_pass (stands rows known sets) rows none)
 
-  pub granted_definitions : ((j : ℕ) (row : Row) → slice_get rows j ≡ Some row → stands rows known sets row ≡ true) → SoundDefinitions rows
-  granted_definitions kept = sound_definitions rows fine known sets h.typed h.long h.scoped h.all h.small kept
+    pub granted_definitions : SoundDefinitions rows
+    granted_definitions = sound_definitions rows fine known sets h.typed h.long h.scoped h.all h.small (all_pass (stands rows known sets) rows none)

@@ -1,12 +1,14 @@
 -- Lists by place, and the rows of a section. Assumes nothing.
-use Rattle.std.proofs.Common.{◌≡◌, ℕ, zero, suc, ◌<◌, ◌≤◌, Bool, true, false, cond, eqb, List, [], ◌∷◌, ◌++◌, length, get_or, take, drop, Some, None, Option, Bor, unwrap_or, sym, refl, ap, ◌∙◌, subst, ⊎_elim, arith, eq-eqb, true-eqb}
-use Rattle.std.specs.List.{slice_get}
+use Rattle.std.proofs.Common.{◌≡◌, ℕ, zero, suc, ◌<◌, ◌≤◌, Bool, true, false, cond, eqb, List, [], ◌∷◌, ◌++◌, length, get_or, not, take, drop, Some, None, Option, MatchOption, Bor, unwrap_or, sym, refl, ap, ◌∙◌, subst, ⊎_elim, arith, eq-eqb, true-eqb}
+use Rattle.std.specs.List.{position, position_or_len, slice_get}
+use Rattle.std.proofs.lemmas.List.Sums.{fails_before_first}
+use Rattle.std.proofs.lemmas.List.Quantifiers.{position-Some}
 use Rattle.std.specs.Option.{option_copied, option_map}
 use Rattle.std.specs.Slice.{IsItemAt}
 use Rattle.std.proofs.lemmas.Grind.{common_steps}
-use Rattle.std.proofs.lemmas.Option.{gets, slice_get_past}
+use Rattle.std.proofs.lemmas.Option.{get_or_from_slice_get, gets, slice_get_past}
 use Rattle.std.proofs.str.Laws.{order}
-use Rattle.std.proofs.lemmas.Bool.{and_parts, and_from}
+use Rattle.std.proofs.lemmas.Bool.{and_parts, and_from, not-false, not-true}
 use Rattle.rows.specs.declared.forms.TypeForm.{TypeForm}
 use Rattle.rows.specs.declared.forms.TypeForm.TheVariants.{Unit as UnitType, Int as IntType, Pair as PairType, Fun as FunType}
 use Rattle.rows.specs.declared.forms.Row.{Row}
@@ -117,6 +119,11 @@ none_found form (r ∷ rs) (suc n) all below =
     ap (λ b. cond b (Some 0) (option_map suc (first_of_form form rs))) (by_cases _ (λ e. below 0 (omega arith) (is_form_true form _ e)))
     ∙ ap (option_map suc) (none_found form rs n (omega arith) (λ k lt. below (suc k) (omega arith)))
 
+-- the first of the numbers that are tried, where all are
+pub first_of_section : (form : TypeForm) (rs : List Row) (most : ℕ) (found : Option ℕ) → length rs ≤ most → MatchOption found ((k : ℕ) → 0 ≤ k → k < most → type_form_of (slice_get rs k) ≡ Some form → ⊥) (λ n. (0 ≤ n) × (n < most) × (type_form_of (slice_get rs n) ≡ Some form) × ((k : ℕ) → 0 ≤ k → k < n → type_form_of (slice_get rs k) ≡ Some form → ⊥)) → found ≡ first_of_form form rs
+first_of_section form rs most None all none = sym (none_found form rs most all (λ k lt. none k (omega arith) lt))
+first_of_section form rs most (Some n) all first = sym (first_found form rs n (λ k lt. first.3 k (omega arith) lt) first.2)
+
 -- a type found has its form
 pub found_form : (form : TypeForm) (rs : List Row) (n : ℕ) → first_of_form form rs ≡ Some n → type_form_of (slice_get rs n) ≡ Some form
 found_form form [] n e = absurd (none_some e)
@@ -164,3 +171,21 @@ take_past zero [] le = refl
 take_past (suc k) [] le = refl
 take_past zero (x ∷ xs) le = absurd (omega arith)
 take_past (suc k) (x ∷ xs) le = ap (λ ys. x ∷ ys) (take_past k xs (omega arith))
+
+-- where no place is found at which a test fails, each item passes it
+pub all_pass : {X : Type 0} (passes : X → Bool) (xs : List X) → position (λ x. not (passes x)) xs ≡ None → (i : ℕ) (x : X) → slice_get xs i ≡ Some x → passes x ≡ true
+all_pass passes xs none i x e =
+    let past : length xs ≤ position_or_len (λ y. not (passes y)) xs = grind (arith, common_steps) in
+    let inside = nth_inside xs i x e in
+    let here = not-false _ (fails_before_first (λ y. not (passes y)) xs i x (omega arith)) in
+    subst (λ y. passes y ≡ true) (get_or_from_slice_get xs i x x e) here
+
+-- where a place is found, each item before it passes, and the one there fails
+pub first_fails : {X : Type 0} (passes : X → Bool) (xs : List X) (n : ℕ) → position (λ x. not (passes x)) xs ≡ Some n → ((i : ℕ) (x : X) → i < n → slice_get xs i ≡ Some x → passes x ≡ true) × ((x : X) × (slice_get xs n ≡ Some x) × (passes x ≡ false))
+first_fails passes xs n e =
+    let inside : n < length xs = grind (arith, common_steps) in
+    let there = nth_there xs n inside in
+    let failing = not-true _ (position-Some (λ y. not (passes y)) xs n there.0 e).1 in (
+      λ i x before at. subst (λ y. passes y ≡ true) (get_or_from_slice_get xs i x x at) (not-false _ ((position-Some (λ y. not (passes y)) xs n x e).2 i before)),
+      (there.0, there.1, subst (λ y. passes y ≡ false) (get_or_from_slice_get xs n there.0 there.0 there.1) failing),
+    )

@@ -1,5 +1,5 @@
 //! The rules for methods and globals, tried where the types and the free variables of all terms are known.
-ghost use Rattle.std.specs.Prelude.{◌≡◌, ℕ, ◌<◌, true, false, Some, MatchOption};
+ghost use Rattle.std.specs.Prelude.{not, position, ◌≡◌, ℕ, ◌<◌, true, false, Some, MatchOption};
 ghost use Rattle.library.specs.Inference.{same_number};
 ghost use Rattle.library.specs.Judging.{closed_function, global_stands, is_function, is_lam, is_num, method_stands, stands};
 ghost use Rattle.library.specs.Listing.{type_form_at};
@@ -68,13 +68,8 @@ impl Listing<'_> {
 
     // The place of the first row that breaks its rule.
     pub(crate) fn first_broken(self, terms: TermFacts) -> Option<usize>
-        ensures all_before_stand { MatchOption result ((i : ℕ) (row : Row) → slice_get self.entry.rows.now i ≡ Some row → stands self.entry.rows.now terms.entry.types.now terms.entry.free.now row ≡ true) (λ place. ((i : ℕ) (row : Row) → i < place → slice_get self.entry.rows.now i ≡ Some row → stands self.entry.rows.now terms.entry.types.now terms.entry.free.now row ≡ true) × ((row : Row) × (slice_get self.entry.rows.now place ≡ Some row) × (stands self.entry.rows.now terms.entry.types.now terms.entry.free.now row ≡ false))) }
+        ensures first_place { result ≡ position (λ row. not (stands self.entry.rows.now terms.entry.types.now terms.entry.free.now row)) self.entry.rows.now }
     {
-        for (place, row) in self.rows.iter().enumerate() {
-            if !self.stands(terms, *row) {
-                return Some(place);
-            }
-        }
-        None
+        self.rows.iter().position(|row| !self.stands(terms, *row))
     }
 }

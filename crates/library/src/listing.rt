@@ -129,11 +129,6 @@ impl Listing<'_> {
     pub(crate) fn number_of(self, form: TypeForm) -> Option<u32>
         ensures number_of_type { result ≡ number_of_form self.entry.rows.now form }
     {
-        for number in 0..self.counts.types {
-            if self.is_type(number, form) {
-                return Some(number);
-            }
-        }
-        None
+        (0..self.counts.types).find(|number| self.is_type(*number, form))
     }
 }

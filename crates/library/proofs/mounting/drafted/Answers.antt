@@ -1,10 +1,10 @@
-use Rattle.std.proofs.Common.{◌≡◌, Ok, Err, vec_items, sym, ◌∙◌, subst, arith}
+use Rattle.std.proofs.Common.{◌≡◌, ◌<◌, length, Ok, Err, vec_items, sym, ◌∙◌, subst, arith}
 use Rattle.rows.specs.declared.forms.Section.TheVariants.{Terms}
 use Rattle.rows.specs.Tallies.{CountsOf}
 use Rattle.library.specs.Inference.{LeavesBy, Sectioned, TypedBy}
 use Rattle.library.specs.Mounting.{Mounts, WellTyped}
 use Rattle.library.specs.declared.refusal.MountFault.TheVariants.{Memory}
-use Rattle.library.proofs.Lists.{nth_inside}
+use Rattle.std.proofs.lemmas.Grind.{common_steps}
 use Rattle.library.proofs.Sorted.{count_length, few_rows, sectioned}
 use Rattle.library.proofs.Granting.{found_through, granted_definitions, granted_rows, refused_by}
 use Rattle.library.proofs.Trials.{answered, answered_exit}
@@ -21,14 +21,14 @@ types_of_terms-requires c = record { faultless = c.in_ok-tally.ensures.tally_or_
 pub fault_of_row-requires : goal.fault_of_row-requires
 fault_of_row-requires c =
     let given = c.in_ok-tally.ensures.tally_or_first_fault in
-    let broken = c.in-Some.ensures.all_before_stand.1 in
-    record { few_rows = omega (arith, few_rows c.args.rows.now given.0, nth_inside c.args.rows.now c.in-Some.place broken.0 broken.1) }
+    let inside : c.in-Some.place < length c.args.rows.now = grind (arith, common_steps) in
+    record { few_rows = omega (arith, few_rows c.args.rows.now given.0) }
 
 pub returns-in-Some : goal.returns-in-Some
 returns-in-Some c =
     let given = c.in_ok-tally.ensures.tally_or_first_fault in
     let found = found_through c.args.rows.now _ _ _ _ c.deref.ensures.value c.deref-2.ensures.value c.in_ok-term_types.ensures.types_or_first_fault c.in_ok-free.ensures.sets_of_terms in
-    answered c.args.rows.now (Err c.fault_of_row.result) (refused_by c.args.rows.now given.0 _ _ found c.in-Some.place c.in-Some.ensures.all_before_stand _ c.fault_of_row.ensures.fault_at_line)
+    answered c.args.rows.now (Err c.fault_of_row.result) (refused_by c.args.rows.now given.0 _ _ found c.in-Some.place (sym c.in-Some.ensures.first_place) _ c.fault_of_row.ensures.fault_at_line)
 
 pub invariant_of-result : goal.invariant_of-result
 invariant_of-result c =
@@ -37,7 +37,7 @@ invariant_of-result c =
     let found = found_through c.args.rows.now _ _ _ _ c.deref.ensures.value c.deref-2.ensures.value types c.in_ok-free.ensures.sets_of_terms in
     let same : vec_items c.in_ok-to_vec.field-0 ≡ c.args.rows.now = c.in_ok-to_vec.ensures.items_if_clones_equal (λ x y e. e) in
     record {
-      well_typed = subst WellTyped (sym same) (granted_rows c.args.rows.now given.0 _ _ found c.in_default.ensures.all_before_stand);
+      well_typed = subst WellTyped (sym same) (granted_rows c.args.rows.now given.0 _ _ found (sym c.in_default.ensures.first_place));
       counted = subst (λ rs. CountsOf rs c.in_ok-tally.tally.counts) (sym same) given.1.counts;
       leaves = subst (λ rs. LeavesBy rs c.in_ok-tally.tally.leaves) (sym same) given.1.type_leaves;
       typed = subst (λ rs. TypedBy rs (vec_items c.in_ok-term_types.term_types)) (sym same) types.0;
@@ -49,8 +49,8 @@ returns c =
     let given = c.in_ok-tally.ensures.tally_or_first_fault in
     let found = found_through c.args.rows.now _ _ _ _ c.deref.ensures.value c.deref-2.ensures.value c.in_ok-term_types.ensures.types_or_first_fault c.in_ok-free.ensures.sets_of_terms in (
       c.in_ok-to_vec.ensures.items_if_clones_equal (λ x y e. e),
-      answered c.args.rows.now (Ok tt) (granted_rows c.args.rows.now given.0 _ _ found c.in_default.ensures.all_before_stand),
-      granted_definitions c.args.rows.now given.0 _ _ found c.in_default.ensures.all_before_stand,
+      answered c.args.rows.now (Ok tt) (granted_rows c.args.rows.now given.0 _ _ found (sym c.in_default.ensures.first_place)),
+      granted_definitions c.args.rows.now given.0 _ _ found (sym c.in_default.ensures.first_place),
     )
 
 pub returns-in_err-tally : goal.returns-in_err-tally
