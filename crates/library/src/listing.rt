@@ -118,17 +118,10 @@ impl Listing<'_> {
         }
     }
 
-    // Whether the type of a number has this form.
-    fn is_type(self, number: u32, form: TypeForm) -> bool
-        ensures has_form { MatchBool result (type_form_at self.entry.rows.now number ≡ Some form) (type_form_at self.entry.rows.now number ≢ Some form) }
-    {
-        self.type_form(number) == Some(form)
-    }
-
     // The number of the type of this form.
     pub(crate) fn number_of(self, form: TypeForm) -> Option<u32>
         ensures number_of_type { result ≡ number_of_form self.entry.rows.now form }
     {
-        (0..self.counts.types).find(|number| self.is_type(*number, form))
+        (0..self.counts.types).find(|number| self.type_form(*number) == Some(form))
     }
 }
