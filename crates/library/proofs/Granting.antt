@@ -1,12 +1,12 @@
 -- What follows where all terms are typed. Assumes nothing.
-use Rattle.std.proofs.Common.{◌≡◌, ℕ, ◌+◌, ◌<◌, true, false, List, length, not, Some, None, Err, sym, refl, ap, ◌∙◌, subst, arith}
+use Rattle.std.proofs.Common.{◌≡◌, ℕ, zero, suc, ◌+◌, ◌^◌, ◌<◌, [], ◌∷◌, true, false, List, length, not, Some, None, Err, sym, refl, ap, ◌∙◌, subst, arith}
 use Rattle.std.specs.List.{position, slice_get}
 use Rattle.faults.specs.declared.TypingFault.TheVariants.{Definition}
 use Rattle.rows.specs.declared.forms.Row.{Row}
 use Rattle.rows.specs.declared.forms.Section.TheVariants.{Terms}
 use Rattle.rows.specs.Faults.{Faultless}
 use Rattle.library.specs.Listing.{section_rows, global_type_at}
-use Rattle.library.proofs.Lists.{all_pass, first_fails, some_same}
+use Rattle.library.proofs.Lists.{all_pass, first_fails, none_some, some_same}
 use Rattle.faults.specs.declared.LibraryFault.TheVariants.{Typing}
 use Rattle.rows.specs.declared.forms.MethodForm.{MethodForm}
 use Rattle.rows.specs.declared.forms.Row.TheVariants.{Method as MethodRow, Global as GlobalRow}
@@ -14,6 +14,9 @@ use Rattle.rows.specs.declared.forms.Section.TheVariants.{Methods, Globals}
 use Rattle.library.specs.declared.refusal.MountFault.{MountFault}
 use Rattle.library.specs.declared.refusal.MountFault.TheVariants.{Refused}
 use Rattle.library.specs.Definitions.{GlobalRule, MethodRule, SoundDefinitions}
+use Rattle.library.specs.declared.facts.TermFacts.{TermFacts}
+use Rattle.library.specs.Facts.{free_sets, type_numbers}
+use Rattle.std.proofs.lemmas.List.{length-map}
 use Rattle.library.specs.Inference.{TypedBy}
 use Rattle.library.specs.Judging.{stands}
 use Rattle.library.specs.Listing.{global_term_at, global_term_of, method_at}
@@ -63,9 +66,15 @@ pub record Found (rows : List Row) (known sets : List ℕ) : Type 0 where
   pub all : length sets ≡ length (section_rows Terms rows)
   pub small : Words sets
 
-pub found_through : (rows : List Row) (known sets seen read : List ℕ) → seen ≡ known → read ≡ sets → TypedBy rows known × (length known ≡ length (section_rows Terms rows)) → ScopedBy rows sets × (length sets ≡ length (section_rows Terms rows)) × Words sets → Found rows seen read
-found_through rows known sets seen read e f t s =
-    subst (λ ks. Found rows ks read) (sym e) (subst (λ ss. Found rows known ss) (sym f) (record { typed = t.0; long = t.1; scoped = s.0; all = s.1; small = s.2 }))
+-- each set of variables fits a word
+words : (known : List TermFacts) → Words (free_sets known)
+words [] t set e = absurd (none_some e)
+words (facts ∷ known) zero set e = subst (λ n. n < 2 ^ 64) (some_same e) facts.free.word
+words (facts ∷ known) (suc t) set e = words known t set e
+
+pub found_through : (rows : List Row) (known seen : List TermFacts) → seen ≡ known → TypedBy rows (type_numbers known) × ScopedBy rows (free_sets known) × (length known ≡ length (section_rows Terms rows)) → Found rows (type_numbers seen) (free_sets seen)
+found_through rows known seen same found =
+    subst (λ facts. Found rows (type_numbers facts) (free_sets facts)) (sym same) (record { typed = found.0; long = length-map known _ ∙ found.2; scoped = found.1; all = length-map known _ ∙ found.2; small = words known })
 
 module _ (rows : List Row) (fine : Faultless rows) (known sets : List ℕ) (h : Found rows known sets) where
   pub refused_by : (i : ℕ) → position (λ row. not (stands rows known sets row)) rows ≡ Some i → (told : MountFault) → told ≡ Refused (record { place = i + 1; fault = Typing Definition }) → Mounts rows (Err told)
@@ -73,9 +82,12 @@ module _ (rows : List Row) (fine : Faultless rows) (known sets : List ℕ) (h : 
       let b = first_fails (stands rows known sets) rows i found in
       definition_refused rows fine known sets h.typed h.long h.scoped h.all h.small i b.0 b.1.0 b.1.1 b.1.2 told e
 
+  pub granted_rows : ((j : ℕ) (row : Row) → slice_get rows j ≡ Some row → stands rows known sets row ≡ true) → WellTyped rows
+  granted_rows kept = well_typed rows fine known sets h.typed h.long h.scoped h.all h.small kept
+
   module _ (none : position (λ row. not (stands rows known sets row)) rows ≡ None) where
-    pub granted_rows : WellTyped rows
-    granted_rows = well_typed rows fine known sets h.typed h.long h.scoped h.all h.small (all_pass (stands rows known sets) rows none)
+    pub granted_all : WellTyped rows
+    granted_all = granted_rows (all_pass (stands rows known sets) rows none)
 
     pub granted_definitions : SoundDefinitions rows
     granted_definitions = sound_definitions rows fine known sets h.typed h.long h.scoped h.all h.small (all_pass (stands rows known sets) rows none)

@@ -1,5 +1,5 @@
 -- What one row more adds to what is known of the rows before it. Assumes nothing.
-use Rattle.std.proofs.Common.{◌≡◌, ℕ, suc, ◌+◌, ◌^◌, ◌<◌, ◌≤◌, true, cond, eqb, List, [], ◌∷◌, ◌++◌, length, get_or, take, Some, Ok, Err, sym, refl, ap, ◌∙◌, subst, ⊎_elim, add-one, arith, length-append}
+use Rattle.std.proofs.Common.{◌≡◌, ℕ, suc, ◌+◌, ◌<◌, ◌≤◌, true, cond, eqb, List, [], ◌∷◌, ◌++◌, length, get_or, take, Some, Ok, Err, sym, refl, ap, ◌∙◌, subst, ⊎_elim, add-one, arith, length-append}
 use Rattle.std.specs.List.{slice_get}
 use Rattle.std.proofs.lemmas.Option.{slice_get-get_or}
 use Rattle.faults.specs.declared.TypingFault.{TypingFault}
@@ -11,8 +11,8 @@ use Rattle.rows.specs.declared.forms.Section.TheVariants.{Terms}
 use Rattle.rows.specs.Faults.{Faultless}
 use Rattle.library.specs.Listing.{section_rows, term_at}
 use Rattle.library.specs.Typing.{TermIs}
-use Rattle.library.proofs.Lists.{some_same, nth_inside}
-use Rattle.std.proofs.lemmas.List.{take-append-le, get_or_append_left, get_or_push, take_more, length-take-le}
+use Rattle.library.proofs.Lists.{some_same}
+use Rattle.std.proofs.lemmas.List.{length-map, map-append, take-append-le, get_or_append_left, get_or_push, take_more, length-take-le}
 use Rattle.rows.specs.declared.tally.Counts.{Counts}
 use Rattle.rows.specs.Tallies.{Tallied}
 use Rattle.library.specs.declared.refusal.MountFault.{MountFault}
@@ -26,9 +26,11 @@ use Rattle.rows.specs.Sections.{section, place}
 use Rattle.rows.specs.Faults.{Least, NoneOf, RowFault, NumbersInRange}
 use Rattle.library.specs.declared.refusal.MountFault.TheVariants.{Refused}
 use Rattle.library.specs.Inference.{TypedBy, type_of}
-use Rattle.library.specs.Scopes.{ScopedBy, Words, free_in}
+use Rattle.library.specs.Scopes.{ScopedBy, free_in}
+use Rattle.library.specs.Facts.{free_sets, type_numbers}
+use Rattle.library.specs.declared.facts.TermFacts.{TermFacts}
 use Rattle.library.specs.Mounting.{Mounts}
-use Rattle.library.proofs.Lists.{nth_end, nth_left, take_all}
+use Rattle.library.proofs.Lists.{take_all, take_past}
 use Rattle.library.proofs.Sorted.{few_rows, running_row, running_now, section_more, section_grows, section_part}
 use Rattle.library.proofs.Inferring.{Known, no_type, unlisted_type, no_definition}
 use Rattle.library.proofs.Tables.{typed_more, scoped_more, known_all}
@@ -55,16 +57,6 @@ faultless_push rs row h here i r lt is = ⊎_elim older newest (order i (length 
         let same : row ≡ r = sym (get_or_push rs row r i last) ∙ is in
         let before : rs ≡ take i (rs ++ (row ∷ [])) = sym (take-append-le i rs (row ∷ []) (omega arith) ∙ ap (λ k. take k rs) (sym last) ∙ take_all rs) in
         subst (λ b. NoneOf (RowFault true b r)) before (subst (λ x. NoneOf (RowFault true rs x)) same here)
-
--- one word more
-pub words_more : (known : List ℕ) (set : ℕ) → Words known → set < 2 ^ 64 → Words (known ++ (set ∷ []))
-words_more known set small lt t s e = ⊎_elim (λ p. small t s (sym (nth_left known (set ∷ []) t p) ∙ e)) newest (order t (length known))
-  where
-    newest : length known ≤ t → s < 2 ^ 64
-    newest le =
-        let last : t ≡ length known = omega (arith, nth_inside (known ++ (set ∷ [])) t s e, length-append known (set ∷ [])) in
-        let same : set ≡ s = some_same (sym (nth_end known set []) ∙ ap (slice_get (known ++ (set ∷ []))) (sym last) ∙ e) in
-        subst (λ n. n < 2 ^ 64) same lt
 
 -- a number outside its range is the least fault
 pub number_least : (before : List Row) (row : Row) → (NumbersInRange row → ⊥) → Least (RowFault true before row) NumberFault
@@ -145,3 +137,36 @@ module _ (rows : List Row) (fine : Faultless rows) (i : ℕ) where
         answer Parts h = (i, refl, parts_first rows fine i t form at known each few (no_type rows fine known each t form is number h))
         answer Unlisted h = (i, refl, unlisted_first rows fine i t form at known each few (unlisted_type rows fine known each t form is h))
         answer Definition h = absurd (no_definition rows fine known each t form is h)
+
+-- what is found of the terms among the first i rows
+pub record FoundSoFar (rows : List Row) (i : ℕ) (known : List TermFacts) : Type 0 where
+  pub typed : TypedBy rows (type_numbers known)
+  pub scoped : ScopedBy rows (free_sets known)
+  pub long : length known ≡ length (section_rows Terms (take i rows))
+
+module _ (rows : List Row) (fine : Faultless rows) (i : ℕ) (known : List TermFacts) (sofar : FoundSoFar rows i known) where
+  numbers_long : length (type_numbers known) ≡ length (section_rows Terms (take i rows))
+  numbers_long = length-map known _ ∙ sofar.long
+
+  -- with a row that is no term, and with a term
+  pub found_without : (row : Row) → slice_get rows i ≡ Some row → ((t : ℕ) (form : TermForm) → row ≡ TermRow t form → ⊥) → FoundSoFar rows (i + 1) known
+  found_without row at other = record { typed = sofar.typed; scoped = sofar.scoped; long = sofar.long ∙ no_term rows fine i row at other }
+
+  module _ (t : ℕ) (form : TermForm) (at : slice_get rows i ≡ Some (TermRow t form)) where
+    pub found_with : (facts : TermFacts) → type_of rows (type_numbers known) form ≡ Ok facts.type_number → facts.free.bits ≡ free_in (free_sets known) form → FoundSoFar rows (i + 1) (known ++ (facts ∷ []))
+    found_with facts type set =
+        let numbers = map-append (λ (f : TermFacts). f.type_number) known (facts ∷ []) in
+        let sets = map-append (λ (f : TermFacts). f.free.bits) known (facts ∷ []) in
+        let many = length-map known (λ (f : TermFacts). f.free.bits) in
+        record {
+          typed = subst (TypedBy rows) (sym numbers) (typed_next rows fine i t form at (type_numbers known) facts.type_number sofar.typed numbers_long type).0;
+          scoped = subst (ScopedBy rows) (sym sets) (scoped_next rows fine i t form at (free_sets known) facts.free.bits sofar.scoped (many ∙ sofar.long) set).0;
+          long = omega (arith, length-append known (facts ∷ []), one_term rows fine i t form at, sofar.long);
+        }
+
+    pub found_refused : (fault : TypingFault) → type_of rows (type_numbers known) form ≡ Err fault → (told : MountFault) → told ≡ Refused (record { place = i + 1; fault = Typing fault }) → Mounts rows (Err told)
+    found_refused fault e told q = typing_refused rows fine i t form at (type_numbers known) sofar.typed numbers_long fault e told q
+
+-- with all rows
+pub found_all : (rows : List Row) (i : ℕ) (known : List TermFacts) → length rows ≤ i → FoundSoFar rows i known → TypedBy rows (type_numbers known) × ScopedBy rows (free_sets known) × (length known ≡ length (section_rows Terms rows))
+found_all rows i known all sofar = (sofar.typed, sofar.scoped, sofar.long ∙ ap (λ rs. length (section_rows Terms rs)) (take_past i rows all))

@@ -1,6 +1,7 @@
 //! What a library tells of its rows.
 ghost use Rattle.std.specs.Prelude.{◌≡◌, ℕ, Some, None, Option, MatchOption};
 ghost use Rattle.library.specs.Definitions.{SoundDefinitions};
+ghost use Rattle.library.specs.Facts.{type_numbers};
 ghost use Rattle.library.specs.Held.{library_rows};
 ghost use Rattle.library.specs.Listing.{global_term_at, global_type_at, method_at, method_type_at, term_at, type_form_at, variable_type_at};
 ghost use Rattle.library.specs.Mounting.{WellTyped};
@@ -10,6 +11,7 @@ ghost use Rattle.rows.specs.Types.{Tree, leaves, types};
 ghost use Rattle.std.specs.List.{slice_get};
 ghost use Rattle.std.specs.Option.{option_map};
 
+use super::facts::TermFacts;
 use super::library::Library;
 use super::listing::Listing;
 use rows::{Counts, MethodForm, Row, Tally, TermForm, TypeForm};
@@ -27,11 +29,11 @@ impl Library {
         }
     }
 
-    // The numbers of the types of all terms.
-    fn types(&self) -> &[u32]
-        ensures types_of_terms { (t : ℕ) (n : Option ℕ) → n ≡ slice_get result.now t → MatchOption n (term_at (library_rows self.now) t ≡ None) (λ k. (type : Tree) × (slice_get (types (library_rows self.now)) k ≡ Some type) × HasType (library_rows self.now) t type) }
+    // What is found of all terms.
+    fn term_facts(&self) -> &[TermFacts]
+        ensures types_of_terms { (t : ℕ) (n : Option ℕ) → n ≡ slice_get (type_numbers result.now) t → MatchOption n (term_at (library_rows self.now) t ≡ None) (λ k. (type : Tree) × (slice_get (types (library_rows self.now)) k ≡ Some type) × HasType (library_rows self.now) t type) }
     {
-        &self.term_types
+        &self.term_facts
     }
 
     /// The rows of the library. They are well-formed and well-typed, its methods are closed functions of their declared
@@ -119,6 +121,8 @@ impl Library {
     pub fn term_type(&self, number: u32) -> Option<u32>
         ensures type_of_term { MatchOption result (term_at (library_rows self.now) number ≡ None) (λ n. (type : Tree) × (slice_get (types (library_rows self.now)) n ≡ Some type) × HasType (library_rows self.now) number type) }
     {
-        self.types().get(number as usize).copied()
+        self.term_facts()
+            .get(number as usize)
+            .map(|facts| facts.type_number)
     }
 }

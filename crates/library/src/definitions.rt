@@ -1,20 +1,12 @@
 //! The rules for methods and globals, tried where the types and the free variables of all terms are known.
-ghost use Rattle.std.specs.Prelude.{not, position, ◌≡◌, ℕ, ◌<◌, true, false, Some, MatchOption};
-ghost use Rattle.library.specs.Inference.{same_number};
-ghost use Rattle.library.specs.Judging.{closed_function, global_stands, is_function, is_lam, is_num, method_stands, stands};
+ghost use Rattle.std.specs.Prelude.{◌≡◌, not, position};
+ghost use Rattle.library.specs.Facts.{free_sets, type_numbers};
+ghost use Rattle.library.specs.Judging.{closed_function, global_stands, is_function, method_stands, stands};
 ghost use Rattle.library.specs.Listing.{type_form_at};
-ghost use Rattle.rows.specs.declared.forms.Row.{Row};
-ghost use Rattle.std.specs.List.{slice_get};
 
+use super::facts::TermFacts;
 use super::listing::Listing;
 use rows::{MethodForm, Row, TermForm, TypeForm};
-
-// What is known of all terms: the numbers of their types, and their free variables.
-#[derive(Clone, Copy)]
-pub(crate) struct TermFacts<'a> {
-    pub(crate) types: &'a [u32],
-    pub(crate) free: &'a [u64],
-}
 
 impl Listing<'_> {
     // Whether the type of a number is a function type.
@@ -25,18 +17,18 @@ impl Listing<'_> {
     }
 
     // Whether a term is a closed function of a type.
-    fn closed_function(self, terms: TermFacts, number: u32, term: u32) -> bool
-        ensures closed_lam_of_type { result ≡ closed_function self.entry.rows.now terms.entry.types.now terms.entry.free.now number term }
+    fn closed_function(self, terms: &[TermFacts], number: u32, term: u32) -> bool
+        ensures closed_lam_of_type { result ≡ closed_function self.entry.rows.now (type_numbers terms.now) (free_sets terms.now) number term }
     {
         self.is_function(number)
             && matches!(self.term(term), Some(TermForm::Lam(_, _)))
-            && terms.types.get(term as usize).copied() == Some(number)
-            && terms.free.get(term as usize).copied() == Some(0)
+            && terms.get(term as usize).is_some_and(|facts| facts.type_number == number
+                && facts.free.is_empty())
     }
 
     // Whether a method keeps its rule.
-    fn method_stands(self, terms: TermFacts, form: MethodForm) -> bool
-        ensures rule_of_methods { result ≡ method_stands self.entry.rows.now terms.entry.types.now terms.entry.free.now form }
+    fn method_stands(self, terms: &[TermFacts], form: MethodForm) -> bool
+        ensures rule_of_methods { result ≡ method_stands self.entry.rows.now (type_numbers terms.now) (free_sets terms.now) form }
     {
         match form {
             MethodForm::Abstract(number) => self.is_function(number),
@@ -47,8 +39,8 @@ impl Listing<'_> {
     }
 
     // Whether a global of a type and a term keeps its rule.
-    fn global_stands(self, terms: TermFacts, number: u32, term: u32) -> bool
-        ensures rule_of_globals { result ≡ global_stands self.entry.rows.now terms.entry.types.now terms.entry.free.now number term }
+    fn global_stands(self, terms: &[TermFacts], number: u32, term: u32) -> bool
+        ensures rule_of_globals { result ≡ global_stands self.entry.rows.now (type_numbers terms.now) (free_sets terms.now) number term }
     {
         let word = self.type_form(number) == Some(TypeForm::Int)
             && matches!(self.term(term), Some(TermForm::Num(_)));
@@ -56,8 +48,8 @@ impl Listing<'_> {
     }
 
     // Whether a row keeps its rule.
-    fn stands(self, terms: TermFacts, row: Row) -> bool
-        ensures rule_of_row { result ≡ stands self.entry.rows.now terms.entry.types.now terms.entry.free.now row }
+    fn stands(self, terms: &[TermFacts], row: Row) -> bool
+        ensures rule_of_row { result ≡ stands self.entry.rows.now (type_numbers terms.now) (free_sets terms.now) row }
     {
         match row {
             Row::Type(_, _) | Row::Variable(_, _) | Row::Term(_, _) => true,
@@ -67,8 +59,8 @@ impl Listing<'_> {
     }
 
     // The place of the first row that breaks its rule.
-    pub(crate) fn first_broken(self, terms: TermFacts) -> Option<usize>
-        ensures first_place { result ≡ position (λ row. not (stands self.entry.rows.now terms.entry.types.now terms.entry.free.now row)) self.entry.rows.now }
+    pub(crate) fn first_broken(self, terms: &[TermFacts]) -> Option<usize>
+        ensures first_place { result ≡ position (λ row. not (stands self.entry.rows.now (type_numbers terms.now) (free_sets terms.now) row)) self.entry.rows.now }
     {
         self.rows.iter().position(|row| !self.stands(terms, *row))
     }

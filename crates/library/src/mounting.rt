@@ -8,11 +8,9 @@ ghost use Rattle.library.specs.declared.refusal.MountFault.TheVariants.{Memory};
 ghost use Rattle.std.specs.Prelude.{◌≡◌, [], Ok, Err, Result, MatchResult, OnOk, ◌≢◌};
 
 use super::admitting::admit_all;
-use super::definitions::TermFacts;
 use super::library::Library;
 use super::listing::Listing;
 use super::refusal::{MountFault, fault_of_row};
-use super::scopes::free_variables;
 use faults::{LibraryFault, TypingFault};
 use rows::{Row, Tally};
 use std::alloc::Global;
@@ -26,18 +24,13 @@ fn drafted(heap: Global, rows: &[Row]) -> Result<Library, MountFault>
         rows,
         counts: tally.counts(),
     };
-    let term_types = listing.types_of_terms(heap)?;
-    let free = free_variables(heap, rows)?;
-    let terms = TermFacts {
-        types: &term_types,
-        free: &free,
-    };
-    if let Some(place) = listing.first_broken(terms) {
+    let term_facts = listing.facts_of_terms(heap)?;
+    if let Some(place) = listing.first_broken(&term_facts) {
         return Err(fault_of_row(place, LibraryFault::Typing(TypingFault::Definition)));
     }
     Ok(Library {
         rows: rows.to_vec(heap)?,
-        term_types,
+        term_facts,
         tally,
     })
 }
@@ -49,7 +42,7 @@ impl Library {
     {
         Library {
             rows: Vec::new(heap),
-            term_types: Vec::new(heap),
+            term_facts: Vec::new(heap),
             tally: Tally::new(),
         }
     }

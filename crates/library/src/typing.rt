@@ -1,47 +1,41 @@
-//! The types of terms, found in the order of the terms.
-ghost use Rattle.std.specs.Prelude.{◌≡◌, ℕ, length, if◌then◌else◌, Some, None, Err, MatchResult};
-ghost use Rattle.library.specs.Inference.{TypedBy, by_number, first_part, form_named, function_of, is_form, is_int, pair_of, result_for, same_number, second_part, settled, type_of, wanted};
+//! The type of a term, from those of the terms before it.
+ghost use Rattle.std.specs.Prelude.{◌≡◌};
+ghost use Rattle.library.specs.Facts.{type_numbers};
+ghost use Rattle.library.specs.Inference.{form_named, is_int, type_of, wanted};
 ghost use Rattle.rows.specs.declared.forms.TermForm.TheVariants.{App, If};
-ghost use Rattle.rows.specs.declared.forms.TypeForm.TheVariants.{Int as IntType, Unit as UnitType};
-ghost use Rattle.library.specs.declared.wanted.Wanted.TheVariants.{Form};
-ghost use Rattle.library.specs.Listing.{section_rows};
-ghost use Rattle.library.specs.Mounting.{Mounts};
-ghost use Rattle.rows.specs.Faults.{Faultless};
-ghost use Rattle.rows.specs.declared.forms.Section.TheVariants.{Terms};
 ghost use Rattle.std.specs.List.{slice_get};
 
+use super::facts::TermFacts;
 use super::listing::Listing;
-use super::refusal::{MountFault, fault_of_row};
 use super::wanted::Wanted;
-use faults::{LibraryFault, TypingFault};
-use rows::{Row, TermForm, TypeForm};
-use std::alloc::Global;
+use faults::TypingFault;
+use rows::{TermForm, TypeForm};
 
 // The types of the terms so far, by number.
-fn type_so_far(known: &[u32], term: u32) -> Option<u32>
-    ensures known_type { result ≡ slice_get known.now term }
+fn type_so_far(known: &[TermFacts], term: u32) -> Option<u32>
+    ensures known_type { result ≡ slice_get (type_numbers known.now) term }
 {
-    known.get(term as usize).copied()
+    known.get(term as usize).map(|facts| facts.type_number)
 }
 
 impl Listing<'_> {
     // The form of an earlier term's type.
-    fn form_so_far(self, known: &[u32], term: u32) -> Option<TypeForm>
-        ensures form_of_type { result ≡ form_named self.entry.rows.now (slice_get known.now term) }
+    fn form_so_far(self, known: &[TermFacts], term: u32) -> Option<TypeForm>
+        ensures form_of_type { result ≡ form_named self.entry.rows.now (slice_get (type_numbers known.now) term) }
     {
         self.type_form(type_so_far(known, term)?)
     }
 
     // Whether an earlier term is an int.
-    fn int_so_far(self, known: &[u32], term: u32) -> bool
-        ensures int_form { result ≡ is_int self.entry.rows.now (slice_get known.now term) }
+    fn int_so_far(self, known: &[TermFacts], term: u32) -> bool
+        ensures int_form { result ≡ is_int self.entry.rows.now (slice_get (type_numbers known.now) term) }
     {
         self.form_so_far(known, term) == Some(TypeForm::Int)
     }
 
     // The type of a call: that of the function's result, where it takes this argument.
-    fn type_of_call(self, known: &[u32], function: u32, argument: u32) -> Option<Wanted>
-        ensures by_its_rule { result ≡ wanted self.entry.rows.now known.now (App function argument) }
+    fn type_of_call(self, known: &[TermFacts], function: u32, argument: u32) -> Option<Wanted>
+        ensures by_its_rule { result ≡ wanted self.entry.rows.now (type_numbers known.now) (App function argument) }
     {
         match self.form_so_far(known, function)? {
             TypeForm::Fun(taken, given) if taken == type_so_far(known, argument)? => {
@@ -54,12 +48,12 @@ impl Listing<'_> {
     // The type of a conditional: that of its two branches, where they are alike and the condition is an int.
     fn type_of_branches(
         self,
-        known: &[u32],
+        known: &[TermFacts],
         condition: u32,
         left: u32,
         right: u32,
     ) -> Option<Wanted>
-        ensures by_its_rule { result ≡ wanted self.entry.rows.now known.now (If condition left right) }
+        ensures by_its_rule { result ≡ wanted self.entry.rows.now (type_numbers known.now) (If condition left right) }
     {
         let branch = type_so_far(known, left)?;
         let alike = type_so_far(known, right)? == branch;
@@ -67,8 +61,8 @@ impl Listing<'_> {
     }
 
     // The type that a term has by its rule, where the types of the terms before it are known.
-    fn type_by_rule(self, known: &[u32], form: TermForm) -> Option<Wanted>
-        ensures by_its_rule { result ≡ wanted self.entry.rows.now known.now form }
+    fn type_by_rule(self, known: &[TermFacts], form: TermForm) -> Option<Wanted>
+        ensures by_its_rule { result ≡ wanted self.entry.rows.now (type_numbers known.now) form }
     {
         match form {
             TermForm::Unit => Some(Wanted::Form(TypeForm::Unit)),
@@ -113,30 +107,12 @@ impl Listing<'_> {
     }
 
     // The number of a term's type, where the types of the terms before it are known.
-    fn type_of(self, known: &[u32], form: TermForm) -> Result<u32, TypingFault>
-        ensures listed_type { result ≡ type_of self.entry.rows.now known.now form }
+    pub(crate) fn type_of(self, known: &[TermFacts], form: TermForm) -> Result<u32, TypingFault>
+        ensures listed_type { result ≡ type_of self.entry.rows.now (type_numbers known.now) form }
     {
         match self.type_by_rule(known, form).ok_or(TypingFault::Parts)? {
             Wanted::Number(number) => Ok(number),
             Wanted::Form(form) => self.number_of(form).ok_or(TypingFault::Unlisted),
         }
-    }
-
-    // The numbers of the types of all terms, or the first fault of a term's typing.
-    pub(crate) fn types_of_terms(self, heap: Global) -> Result<Vec<u32>, MountFault>
-        requires faultless { Faultless self.rows.now }
-        ensures types_or_first_fault { MatchResult result (λ known. TypedBy self.entry.rows.now known.items × (length known.items ≡ length (section_rows Terms self.entry.rows.now))) (λ fault. Mounts self.entry.rows.now (Err fault)) }
-    {
-        let mut known = Vec::new(heap);
-        for (place, row) in self.rows.iter().enumerate() {
-            if let Row::Term(_, form) = *row {
-                let number = self.type_of(&known, form).map_err(move |fault| fault_of_row(
-                    place,
-                    LibraryFault::Typing(fault),
-                ))?;
-                known.push(number)?;
-            }
-        }
-        Ok(known)
     }
 }

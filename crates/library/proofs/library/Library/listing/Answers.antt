@@ -1,4 +1,6 @@
-use Rattle.std.proofs.Common.{vec_items, sym, subst}
+use Rattle.std.proofs.Common.{vec_items, sym, subst, ◌∙◌}
+use Rattle.std.proofs.lemmas.List.{length-map}
+use Rattle.library.specs.Facts.{type_numbers}
 use Rattle.library.specs.Inference.{Sectioned}
 use Rattle.library.proofs.Held.{as_many, faultless_of, sound_definitions}
 use Rattle.library.proofs.Sorted.{sectioned}
@@ -15,9 +17,10 @@ pub returns : goal.returns
 returns c =
     let l = c.args.self.now in
     let rows = vec_items l.rows in
-    let long = as_many rows l.tally.counts (vec_items l.term_types) _ l.term_types.ok.0 l.all_typed l.counted in
+    let known = type_numbers (vec_items l.term_facts) in
+    let long = as_many rows l.tally.counts known _ (l.term_facts.ok.0 ∙ sym (length-map _ _)) l.all_typed l.counted in
     record {
       same_rows = c.deref.ensures.value;
       well_typed = l.well_typed;
-      sound_definitions = sound_definitions rows l.well_typed (vec_items l.term_types) l.typed long;
+      sound_definitions = sound_definitions rows l.well_typed known l.typed long;
     }
