@@ -2,7 +2,9 @@
 ghost use Rattle.library.specs.Facts.{type_numbers};
 ghost use Rattle.library.specs.Inference.{LeavesBy, TypedBy};
 ghost use Rattle.library.specs.Mounting.{WellTyped};
+ghost use Rattle.rows.specs.Sections.{count};
 ghost use Rattle.rows.specs.Tallies.{CountsOf};
+ghost use Rattle.rows.specs.declared.forms.Section.TheVariants.{Terms};
 ghost use Rattle.std.specs.Prelude.{◌≡◌, vec_len};
 
 use super::facts::TermFacts;
@@ -19,5 +21,5 @@ pub struct Library {
     ghost counted: { CountsOf rows.items tally.counts },
     ghost leaves: { LeavesBy rows.items tally.leaves },
     ghost typed: { TypedBy rows.items (type_numbers term_facts.items) },
-    ghost all_typed: { vec_len term_facts ≡ tally.counts.terms },
+    ghost all_typed: { vec_len term_facts ≡ count Terms rows.items },
 }

@@ -1,5 +1,6 @@
-use Rattle.std.proofs.Common.{◌≡◌, ◌<◌, length, Ok, Err, vec_items, sym, ◌∙◌, subst, arith}
+use Rattle.std.proofs.Common.{◌≡◌, ◌<◌, length, Ok, Err, vec_items, sym, ap, ◌∙◌, subst, arith}
 use Rattle.rows.specs.declared.forms.Section.TheVariants.{Terms}
+use Rattle.rows.specs.Sections.{count}
 use Rattle.rows.specs.Tallies.{CountsOf}
 use Rattle.library.specs.Facts.{type_numbers}
 use Rattle.library.specs.Inference.{LeavesBy, Sectioned, TypedBy}
@@ -42,7 +43,7 @@ invariant_of-result c =
       counted = subst (λ rs. CountsOf rs c.in_ok-tally.tally.counts) (sym same) given.1.counts;
       leaves = subst (λ rs. LeavesBy rs c.in_ok-tally.tally.leaves) (sym same) given.1.type_leaves;
       typed = subst (λ rs. TypedBy rs (type_numbers (vec_items c.in_ok-term_facts.term_facts))) (sym same) facts.0;
-      all_typed = c.in_ok-term_facts.term_facts.ok.0 ∙ facts.2 ∙ sym (given.1.counts Terms ∙ count_length Terms c.args.rows.now);
+      all_typed = c.in_ok-term_facts.term_facts.ok.0 ∙ facts.2 ∙ sym (count_length Terms c.args.rows.now) ∙ ap (count Terms) (sym same);
     }
 
 pub returns : goal.returns
