@@ -68,7 +68,7 @@ pub record Found (rows : List Row) (known sets : List ℕ) : Type 0 where
 
 -- each set of variables fits a word
 words : (known : List TermFacts) → Words (free_sets known)
-words [] t set e = absurd (none_some e)
+words [] t set e = cc
 words (facts ∷ known) zero set e = subst (λ n. n < 2 ^ 64) (some_same e) facts.free.word
 words (facts ∷ known) (suc t) set e = words known t set e
 

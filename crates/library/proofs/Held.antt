@@ -95,14 +95,14 @@ module _ (rows : List Row) (fine : WellTyped rows) (known : List ℕ) (typed : T
           let l = listed_as rows faultless n (fun k.argument k.result) k.named in
           let f = fun_form (types rows) k.argument k.result l.form l.is in
           let z : true ≡ false = sym (ap is_function (l.at ∙ ap Some f.2)) ∙ e in
-          let w : ◌≡◌ {A = ℕ} 0 1 = cc in omega arith))
+          cc))
 
   lam_kept : (t : ℕ) → (((x : ℕ) × (a : ℕ) × TermIs rows t (Lam x a) → ⊥) → ⊥) → (x : ℕ) × (a : ℕ) × TermIs rows t (Lam x a)
   lam_kept t h = step (is_lam (term_at rows t)) refl
     where
       step : (b : Bool) → is_lam (term_at rows t) ≡ b → (x : ℕ) × (a : ℕ) × TermIs rows t (Lam x a)
       step true e = lam_said (term_at rows t) e
-      step false e = absurd (h (λ k. let z : true ≡ false = sym (ap is_lam k.2) ∙ e in let w : ◌≡◌ {A = ℕ} 0 1 = cc in omega arith))
+      step false e = absurd (h (λ k. let z : true ≡ false = sym (ap is_lam k.2) ∙ e in cc))
 
   same_kept : (a b : ℕ) → ((a ≡ b → ⊥) → ⊥) → a ≡ b
   same_kept a b h = ⊎_elim (λ lt. absurd (h (λ e. omega arith))) (λ le. ⊎_elim (λ lt. absurd (h (λ e. omega arith))) (λ ge. omega arith) (order b a)) (order a b)
@@ -137,7 +137,7 @@ module _ (rows : List Row) (fine : WellTyped rows) (known : List ℕ) (typed : T
       step false e =
           inr (closed_kept n t (λ k. h (⊎_elim (λ m.
           let z : true ≡ false = sym (and_from _ _ (int_told rows faultless n m.int_type) (ap is_num m.num)) ∙ e in
-          let w : ◌≡◌ {A = ℕ} 0 1 = cc in omega arith) k)))
+          cc) k)))
 
   method_sound : (m : ℕ) (form : MethodForm) → method_at rows m ≡ Some form → MethodRule rows form
   method_sound m form e =

@@ -26,47 +26,47 @@ use Rattle.library.proofs.Numbered.{listed_as, named_at, tree_once, same_tree_fo
 
 -- what follows from a type that is wanted
 number_said : (o : Option ℕ) (w : Wanted) → by_number o ≡ Some w → (n : ℕ) × (o ≡ Some n) × (w ≡ Number n)
-number_said None w e = absurd (none_some e)
+number_said None w e = cc
 number_said (Some n) w e = (n, refl, sym (some_same e))
 
 function_said : (o p : Option ℕ) (w : Wanted) → function_of o p ≡ Some w → (a : ℕ) × (b : ℕ) × (o ≡ Some a) × (p ≡ Some b) × (w ≡ Form (FunType a b))
-function_said None p w e = absurd (none_some e)
-function_said (Some a) None w e = absurd (none_some e)
+function_said None p w e = cc
+function_said (Some a) None w e = cc
 function_said (Some a) (Some b) w e = (a, b, refl, refl, sym (some_same e))
 
 pair_said : (o p : Option ℕ) (w : Wanted) → pair_of o p ≡ Some w → (a : ℕ) × (b : ℕ) × (o ≡ Some a) × (p ≡ Some b) × (w ≡ Form (PairType a b))
-pair_said None p w e = absurd (none_some e)
-pair_said (Some a) None w e = absurd (none_some e)
+pair_said None p w e = cc
+pair_said (Some a) None w e = cc
 pair_said (Some a) (Some b) w e = (a, b, refl, refl, sym (some_same e))
 
 kept_said : (b : Bool) (o : Option Wanted) (w : Wanted) → cond b o None ≡ Some w → (b ≡ true) × (o ≡ Some w)
 kept_said true o w e = (refl, e)
-kept_said false o w e = absurd (none_some e)
+kept_said false o w e = cc
 
 pub same_said : (o p : Option ℕ) → same_number o p ≡ true → (n : ℕ) × (o ≡ Some n) × (p ≡ Some n)
-same_said None p e = let z : ◌≡◌ {A = ℕ} 0 1 = cc in absurd (omega arith)
-same_said (Some a) None e = let z : ◌≡◌ {A = ℕ} 0 1 = cc in absurd (omega arith)
+same_said None p e = cc
+same_said (Some a) None e = cc
 same_said (Some a) (Some b) e = (a, refl, ap Some (sym (true-eqb a b (sym e))))
 
 first_said : (o : Option TypeForm) (w : Wanted) → first_part o ≡ Some w → (a : ℕ) × (b : ℕ) × (o ≡ Some (PairType a b)) × (w ≡ Number a)
-first_said None w e = absurd (none_some e)
-first_said (Some UnitType) w e = absurd (none_some e)
-first_said (Some IntType) w e = absurd (none_some e)
+first_said None w e = cc
+first_said (Some UnitType) w e = cc
+first_said (Some IntType) w e = cc
 first_said (Some (PairType a b)) w e = (a, b, refl, sym (some_same e))
-first_said (Some (FunType a b)) w e = absurd (none_some e)
+first_said (Some (FunType a b)) w e = cc
 
 second_said : (o : Option TypeForm) (w : Wanted) → second_part o ≡ Some w → (a : ℕ) × (b : ℕ) × (o ≡ Some (PairType a b)) × (w ≡ Number b)
-second_said None w e = absurd (none_some e)
-second_said (Some UnitType) w e = absurd (none_some e)
-second_said (Some IntType) w e = absurd (none_some e)
+second_said None w e = cc
+second_said (Some UnitType) w e = cc
+second_said (Some IntType) w e = cc
 second_said (Some (PairType a b)) w e = (a, b, refl, sym (some_same e))
-second_said (Some (FunType a b)) w e = absurd (none_some e)
+second_said (Some (FunType a b)) w e = cc
 
 result_said : (p : Option ℕ) (o : Option TypeForm) (w : Wanted) → result_for p o ≡ Some w → (a : ℕ) × (b : ℕ) × (o ≡ Some (FunType a b)) × (p ≡ Some a) × (w ≡ Number b)
-result_said p None w e = absurd (none_some e)
-result_said p (Some UnitType) w e = absurd (none_some e)
-result_said p (Some IntType) w e = absurd (none_some e)
-result_said p (Some (PairType a b)) w e = absurd (none_some e)
+result_said p None w e = cc
+result_said p (Some UnitType) w e = cc
+result_said p (Some IntType) w e = cc
+result_said p (Some (PairType a b)) w e = cc
 result_said p (Some (FunType a b)) w e =
     let k = kept_said (same_number (Some a) p) (Some (Number b)) w e in
     let s = same_said (Some a) p k.0 in
@@ -74,7 +74,7 @@ result_said p (Some (FunType a b)) w e =
 
 module _ (rows : List Row) (fine : Faultless rows) where
   named_said : (o : Option ℕ) (f : TypeForm) → form_named rows o ≡ Some f → (n : ℕ) × (o ≡ Some n) × (type_form_at rows n ≡ Some f)
-  named_said None f e = absurd (none_some e)
+  named_said None f e = cc
   named_said (Some n) f e = (n, refl, e)
 
   pub int_said : (o : Option ℕ) → is_int rows o ≡ true → (n : ℕ) × (o ≡ Some n) × (slice_get (types rows) n ≡ Some int)
@@ -301,7 +301,7 @@ module _ (rows : List Row) (fine : Faultless rows) where
       found n e = step (wanted rows known form) refl e
         where
           place : (f : TypeForm) (o : Option ℕ) → number_of_form rows f ≡ o → wanted rows known form ≡ Some (Form f) → listed o ≡ Ok n → (A : Tree) × (slice_get (types rows) n ≡ Some A) × HasType rows t A
-          place f None q g h = let z : ◌≡◌ {A = ℕ} 0 1 = cc in absurd (omega arith)
+          place f None q g h = cc
           place f (Some m) q g h =
               let same : m ≡ n = cc in
               let s = sound t form (Form f) is g in
@@ -309,7 +309,7 @@ module _ (rows : List Row) (fine : Faultless rows) where
               (s.0, ap (slice_get (types rows)) (sym same) ∙ at ∙ ap Some (sym s.1.1), s.2)
 
           step : (o : Option Wanted) → wanted rows known form ≡ o → settled rows o ≡ Ok n → (A : Tree) × (slice_get (types rows) n ≡ Some A) × HasType rows t A
-          step None q h = let z : ◌≡◌ {A = ℕ} 0 1 = cc in absurd (omega arith)
+          step None q h = cc
           step (Some (Number m)) q h =
               let same : m ≡ n = cc in
               let s = sound t form (Number m) is q in
@@ -320,12 +320,12 @@ module _ (rows : List Row) (fine : Faultless rows) where
       no_type long e A d = step (wanted rows known form) refl e
         where
           place : (o : Option ℕ) → listed o ≡ Err Parts → ⊥
-          place None h = let z : ◌≡◌ {A = ℕ} 0 1 = cc in omega arith
-          place (Some m) h = let z : ◌≡◌ {A = ℕ} 0 1 = cc in omega arith
+          place None h = cc
+          place (Some m) h = cc
 
           step : (o : Option Wanted) → wanted rows known form ≡ o → settled rows o ≡ Err Parts → ⊥
           step None q h = let c = complete t form A long is d in none_some (sym q ∙ c.1)
-          step (Some (Number m)) q h = let z : ◌≡◌ {A = ℕ} 0 1 = cc in omega arith
+          step (Some (Number m)) q h = cc
           step (Some (Form f)) q h = place (number_of_form rows f) h
 
       pub unlisted_type : type_of rows known form ≡ Err Unlisted → TypeUnlisted rows t
@@ -335,21 +335,21 @@ module _ (rows : List Row) (fine : Faultless rows) where
           place f None q g h =
               let s = sound t form (Form f) is g in
               record { type = s.0; typed = s.2; unlisted = unlisted_form f s.0 s.1.0 s.1.1 q }
-          place f (Some m) q g h = let z : ◌≡◌ {A = ℕ} 0 1 = cc in absurd (omega arith)
+          place f (Some m) q g h = cc
 
           step : (o : Option Wanted) → wanted rows known form ≡ o → settled rows o ≡ Err Unlisted → TypeUnlisted rows t
-          step None q h = let z : ◌≡◌ {A = ℕ} 0 1 = cc in absurd (omega arith)
-          step (Some (Number m)) q h = let z : ◌≡◌ {A = ℕ} 0 1 = cc in absurd (omega arith)
+          step None q h = cc
+          step (Some (Number m)) q h = cc
           step (Some (Form f)) q h = place f (number_of_form rows f) refl q h
 
       pub no_definition : type_of rows known form ≡ Err Definition → ⊥
       no_definition e = step (wanted rows known form) e
         where
           place : (o : Option ℕ) → listed o ≡ Err Definition → ⊥
-          place None h = let z : ◌≡◌ {A = ℕ} 0 1 = cc in omega arith
-          place (Some m) h = let z : ◌≡◌ {A = ℕ} 0 1 = cc in omega arith
+          place None h = cc
+          place (Some m) h = cc
 
           step : (o : Option Wanted) → settled rows o ≡ Err Definition → ⊥
-          step None h = let z : ◌≡◌ {A = ℕ} 0 1 = cc in omega arith
-          step (Some (Number m)) h = let z : ◌≡◌ {A = ℕ} 0 1 = cc in omega arith
+          step None h = cc
+          step (Some (Number m)) h = cc
           step (Some (Form f)) h = place (number_of_form rows f) h

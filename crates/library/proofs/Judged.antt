@@ -29,47 +29,47 @@ use Rattle.library.proofs.Inferring.{Known, int_said, int_told, same_said}
 use Rattle.library.proofs.Scoping.{closed_empty, closed_told}
 
 pub function_said : (o : Option TypeForm) → is_function o ≡ true → (a : ℕ) × (b : ℕ) × (o ≡ Some (FunType a b))
-function_said None e = let z : ◌≡◌ {A = ℕ} 0 1 = cc in absurd (omega arith)
-function_said (Some UnitType) e = let z : ◌≡◌ {A = ℕ} 0 1 = cc in absurd (omega arith)
-function_said (Some IntType) e = let z : ◌≡◌ {A = ℕ} 0 1 = cc in absurd (omega arith)
-function_said (Some (PairType a b)) e = let z : ◌≡◌ {A = ℕ} 0 1 = cc in absurd (omega arith)
+function_said None e = cc
+function_said (Some UnitType) e = cc
+function_said (Some IntType) e = cc
+function_said (Some (PairType a b)) e = cc
 function_said (Some (FunType a b)) e = (a, b, refl)
 
 pub lam_said : (o : Option TermForm) → is_lam o ≡ true → (x : ℕ) × (a : ℕ) × (o ≡ Some (Lam x a))
-lam_said None e = let z : ◌≡◌ {A = ℕ} 0 1 = cc in absurd (omega arith)
-lam_said (Some UnitTerm) e = let z : ◌≡◌ {A = ℕ} 0 1 = cc in absurd (omega arith)
-lam_said (Some (Num i)) e = let z : ◌≡◌ {A = ℕ} 0 1 = cc in absurd (omega arith)
-lam_said (Some (Var x)) e = let z : ◌≡◌ {A = ℕ} 0 1 = cc in absurd (omega arith)
-lam_said (Some (Meth m)) e = let z : ◌≡◌ {A = ℕ} 0 1 = cc in absurd (omega arith)
-lam_said (Some (Get r)) e = let z : ◌≡◌ {A = ℕ} 0 1 = cc in absurd (omega arith)
+lam_said None e = cc
+lam_said (Some UnitTerm) e = cc
+lam_said (Some (Num i)) e = cc
+lam_said (Some (Var x)) e = cc
+lam_said (Some (Meth m)) e = cc
+lam_said (Some (Get r)) e = cc
 lam_said (Some (Lam x a)) e = (x, a, refl)
-lam_said (Some (Set r a)) e = let z : ◌≡◌ {A = ℕ} 0 1 = cc in absurd (omega arith)
-lam_said (Some (Op o a b)) e = let z : ◌≡◌ {A = ℕ} 0 1 = cc in absurd (omega arith)
-lam_said (Some (Pair a b)) e = let z : ◌≡◌ {A = ℕ} 0 1 = cc in absurd (omega arith)
-lam_said (Some (Fst a)) e = let z : ◌≡◌ {A = ℕ} 0 1 = cc in absurd (omega arith)
-lam_said (Some (Snd a)) e = let z : ◌≡◌ {A = ℕ} 0 1 = cc in absurd (omega arith)
-lam_said (Some (App f a)) e = let z : ◌≡◌ {A = ℕ} 0 1 = cc in absurd (omega arith)
-lam_said (Some (If c a b)) e = let z : ◌≡◌ {A = ℕ} 0 1 = cc in absurd (omega arith)
-lam_said (Some (Let x a b)) e = let z : ◌≡◌ {A = ℕ} 0 1 = cc in absurd (omega arith)
-lam_said (Some (Assert a)) e = let z : ◌≡◌ {A = ℕ} 0 1 = cc in absurd (omega arith)
+lam_said (Some (Set r a)) e = cc
+lam_said (Some (Op o a b)) e = cc
+lam_said (Some (Pair a b)) e = cc
+lam_said (Some (Fst a)) e = cc
+lam_said (Some (Snd a)) e = cc
+lam_said (Some (App f a)) e = cc
+lam_said (Some (If c a b)) e = cc
+lam_said (Some (Let x a b)) e = cc
+lam_said (Some (Assert a)) e = cc
 
 pub num_said : (o : Option TermForm) → is_num o ≡ true → (i : ℤ) × (o ≡ Some (Num i))
-num_said None e = let z : ◌≡◌ {A = ℕ} 0 1 = cc in absurd (omega arith)
-num_said (Some UnitTerm) e = let z : ◌≡◌ {A = ℕ} 0 1 = cc in absurd (omega arith)
+num_said None e = cc
+num_said (Some UnitTerm) e = cc
 num_said (Some (Num i)) e = (i, refl)
-num_said (Some (Var x)) e = let z : ◌≡◌ {A = ℕ} 0 1 = cc in absurd (omega arith)
-num_said (Some (Meth m)) e = let z : ◌≡◌ {A = ℕ} 0 1 = cc in absurd (omega arith)
-num_said (Some (Get r)) e = let z : ◌≡◌ {A = ℕ} 0 1 = cc in absurd (omega arith)
-num_said (Some (Lam x a)) e = let z : ◌≡◌ {A = ℕ} 0 1 = cc in absurd (omega arith)
-num_said (Some (Set r a)) e = let z : ◌≡◌ {A = ℕ} 0 1 = cc in absurd (omega arith)
-num_said (Some (Op o a b)) e = let z : ◌≡◌ {A = ℕ} 0 1 = cc in absurd (omega arith)
-num_said (Some (Pair a b)) e = let z : ◌≡◌ {A = ℕ} 0 1 = cc in absurd (omega arith)
-num_said (Some (Fst a)) e = let z : ◌≡◌ {A = ℕ} 0 1 = cc in absurd (omega arith)
-num_said (Some (Snd a)) e = let z : ◌≡◌ {A = ℕ} 0 1 = cc in absurd (omega arith)
-num_said (Some (App f a)) e = let z : ◌≡◌ {A = ℕ} 0 1 = cc in absurd (omega arith)
-num_said (Some (If c a b)) e = let z : ◌≡◌ {A = ℕ} 0 1 = cc in absurd (omega arith)
-num_said (Some (Let x a b)) e = let z : ◌≡◌ {A = ℕ} 0 1 = cc in absurd (omega arith)
-num_said (Some (Assert a)) e = let z : ◌≡◌ {A = ℕ} 0 1 = cc in absurd (omega arith)
+num_said (Some (Var x)) e = cc
+num_said (Some (Meth m)) e = cc
+num_said (Some (Get r)) e = cc
+num_said (Some (Lam x a)) e = cc
+num_said (Some (Set r a)) e = cc
+num_said (Some (Op o a b)) e = cc
+num_said (Some (Pair a b)) e = cc
+num_said (Some (Fst a)) e = cc
+num_said (Some (Snd a)) e = cc
+num_said (Some (App f a)) e = cc
+num_said (Some (If c a b)) e = cc
+num_said (Some (Let x a b)) e = cc
+num_said (Some (Assert a)) e = cc
 
 either_said : (a b : Bool) → (a || b) ≡ true → (a ≡ true) ⊎ (b ≡ true)
 either_said true b e = inl refl
@@ -158,8 +158,8 @@ module _ (rows : List Row) (fine : Faultless rows) (known sets : List ℕ) (each
   stands_right (TermRow n f) e h = h
 
   pub stands_not : (row : Row) → stands rows known sets row ≡ false → HasTypingFault rows row Definition
-  stands_not (TypeRow n f) e = let z : ◌≡◌ {A = ℕ} 0 1 = cc in absurd (omega arith)
-  stands_not (VariableRow n t) e = let z : ◌≡◌ {A = ℕ} 0 1 = cc in absurd (omega arith)
-  stands_not (MethodRow n f) e = λ h. let z : true ≡ false = sym (method_told f h) ∙ e in let k : ◌≡◌ {A = ℕ} 0 1 = cc in omega arith
-  stands_not (GlobalRow n t u) e = λ h. let z : true ≡ false = sym (global_told t u h) ∙ e in let k : ◌≡◌ {A = ℕ} 0 1 = cc in omega arith
-  stands_not (TermRow n f) e = let z : ◌≡◌ {A = ℕ} 0 1 = cc in absurd (omega arith)
+  stands_not (TypeRow n f) e = cc
+  stands_not (VariableRow n t) e = cc
+  stands_not (MethodRow n f) e = λ h. let z : true ≡ false = sym (method_told f h) ∙ e in cc
+  stands_not (GlobalRow n t u) e = λ h. let z : true ≡ false = sym (global_told t u h) ∙ e in cc
+  stands_not (TermRow n f) e = cc

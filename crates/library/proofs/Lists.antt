@@ -17,7 +17,7 @@ use Rattle.library.specs.Inference.{same_form, is_form, first_of_form}
 
 -- none is no value
 pub none_some : {X : Type 0} {x : X} → None ≡ Some x → ⊥
-none_some e = let z : ◌≡◌ {A = ℕ} 0 1 = cc in omega arith
+none_some e = cc
 
 pub some_same : {X : Type 0} {x y : X} → Some x ≡ Some y → x ≡ y
 some_same e = cc
@@ -61,7 +61,7 @@ getD_nth (x ∷ xs) zero d = refl
 getD_nth (x ∷ xs) (suc i) d = getD_nth xs i d
 
 pub parted : {X : Type 0} (xs : List X) (i : ℕ) (x : X) → slice_get xs i ≡ Some x → xs ≡ take i xs ++ (x ∷ drop (suc i) xs)
-parted [] i x e = absurd (none_some e)
+parted [] i x e = cc
 parted (y ∷ xs) zero x e = ap (λ z. z ∷ xs) (some_same e)
 parted (y ∷ xs) (suc i) x e = ap (λ ys. y ∷ ys) (parted xs i x e)
 
@@ -73,28 +73,28 @@ same_refl (PairType a b) = and_from _ _ (eq-eqb a a refl) (eq-eqb b b refl)
 same_refl (FunType a b) = and_from _ _ (eq-eqb a a refl) (eq-eqb b b refl)
 
 false_true : {X : Type 0} → false ≡ true → X
-false_true e = let z : ◌≡◌ {A = ℕ} 0 1 = cc in absurd (omega arith)
+false_true e = cc
 
 pub same_true : (f g : TypeForm) → same_form f g ≡ true → f ≡ g
 same_true UnitType UnitType e = refl
-same_true UnitType IntType e = false_true e
-same_true UnitType (PairType a b) e = false_true e
-same_true UnitType (FunType a b) e = false_true e
-same_true IntType UnitType e = false_true e
+same_true UnitType IntType e = cc
+same_true UnitType (PairType a b) e = cc
+same_true UnitType (FunType a b) e = cc
+same_true IntType UnitType e = cc
 same_true IntType IntType e = refl
-same_true IntType (PairType a b) e = false_true e
-same_true IntType (FunType a b) e = false_true e
-same_true (PairType a b) UnitType e = false_true e
-same_true (PairType a b) IntType e = false_true e
+same_true IntType (PairType a b) e = cc
+same_true IntType (FunType a b) e = cc
+same_true (PairType a b) UnitType e = cc
+same_true (PairType a b) IntType e = cc
 same_true (PairType a b) (PairType c d) e = let p = and_parts (eqb a c) (eqb b d) e in let x = true-eqb a c (sym p.0) in let y = true-eqb b d (sym p.1) in cc
-same_true (PairType a b) (FunType c d) e = false_true e
-same_true (FunType a b) UnitType e = false_true e
-same_true (FunType a b) IntType e = false_true e
-same_true (FunType a b) (PairType c d) e = false_true e
+same_true (PairType a b) (FunType c d) e = cc
+same_true (FunType a b) UnitType e = cc
+same_true (FunType a b) IntType e = cc
+same_true (FunType a b) (PairType c d) e = cc
 same_true (FunType a b) (FunType c d) e = let p = and_parts (eqb a c) (eqb b d) e in let x = true-eqb a c (sym p.0) in let y = true-eqb b d (sym p.1) in cc
 
 pub is_form_true : (form : TypeForm) (o : Option TypeForm) → is_form form o ≡ true → o ≡ Some form
-is_form_true form None e = false_true e
+is_form_true form None e = cc
 is_form_true form (Some g) e = ap Some (sym (same_true form g e))
 
 pub is_form_told : (form : TypeForm) (o : Option TypeForm) → o ≡ Some form → is_form form o ≡ true
@@ -126,7 +126,7 @@ first_of_section form rs most (Some n) all first = sym (first_found form rs n (�
 
 -- a type found has its form
 pub found_form : (form : TypeForm) (rs : List Row) (n : ℕ) → first_of_form form rs ≡ Some n → type_form_of (slice_get rs n) ≡ Some form
-found_form form [] n e = absurd (none_some e)
+found_form form [] n e = cc
 found_form form (r ∷ rs) n e = step (λ m. found_form form rs m) (is_form form (type_form_of (Some r))) refl e
   where
     later : ((m : ℕ) → first_of_form form rs ≡ Some m → type_form_of (slice_get rs m) ≡ Some form) → (o : Option ℕ) → first_of_form form rs ≡ o → option_map suc o ≡ Some n → type_form_of (slice_get (r ∷ rs) n) ≡ Some form

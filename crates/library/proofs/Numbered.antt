@@ -14,26 +14,26 @@ use Rattle.library.proofs.Sorted.{PartsBelow, parts_below_more, type_named, form
 -- which form has a tree
 pub unit_form : (ts : List Tree) (f : TypeForm) → unit ≡ tree ts f → f ≡ UnitType
 unit_form ts UnitType e = refl
-unit_form ts IntType e = let z : ◌≡◌ {A = ℕ} 0 1 = cc in absurd (omega arith)
-unit_form ts (PairType a b) e = let z : ◌≡◌ {A = ℕ} 0 1 = cc in absurd (omega arith)
-unit_form ts (FunType a b) e = let z : ◌≡◌ {A = ℕ} 0 1 = cc in absurd (omega arith)
+unit_form ts IntType e = cc
+unit_form ts (PairType a b) e = cc
+unit_form ts (FunType a b) e = cc
 
 pub int_form : (ts : List Tree) (f : TypeForm) → int ≡ tree ts f → f ≡ IntType
-int_form ts UnitType e = let z : ◌≡◌ {A = ℕ} 0 1 = cc in absurd (omega arith)
+int_form ts UnitType e = cc
 int_form ts IntType e = refl
-int_form ts (PairType a b) e = let z : ◌≡◌ {A = ℕ} 0 1 = cc in absurd (omega arith)
-int_form ts (FunType a b) e = let z : ◌≡◌ {A = ℕ} 0 1 = cc in absurd (omega arith)
+int_form ts (PairType a b) e = cc
+int_form ts (FunType a b) e = cc
 
 pub pair_form : (ts : List Tree) (A B : Tree) (f : TypeForm) → pair A B ≡ tree ts f → (a : ℕ) × (b : ℕ) × (f ≡ PairType a b) × (A ≡ get_or ts a unit) × (B ≡ get_or ts b unit)
-pair_form ts A B UnitType e = let z : ◌≡◌ {A = ℕ} 0 1 = cc in absurd (omega arith)
-pair_form ts A B IntType e = let z : ◌≡◌ {A = ℕ} 0 1 = cc in absurd (omega arith)
+pair_form ts A B UnitType e = cc
+pair_form ts A B IntType e = cc
 pair_form ts A B (PairType a b) e = (a, b, refl, cc, cc)
-pair_form ts A B (FunType a b) e = let z : ◌≡◌ {A = ℕ} 0 1 = cc in absurd (omega arith)
+pair_form ts A B (FunType a b) e = cc
 
 pub fun_form : (ts : List Tree) (A B : Tree) (f : TypeForm) → fun A B ≡ tree ts f → (a : ℕ) × (b : ℕ) × (f ≡ FunType a b) × (A ≡ get_or ts a unit) × (B ≡ get_or ts b unit)
-fun_form ts A B UnitType e = let z : ◌≡◌ {A = ℕ} 0 1 = cc in absurd (omega arith)
-fun_form ts A B IntType e = let z : ◌≡◌ {A = ℕ} 0 1 = cc in absurd (omega arith)
-fun_form ts A B (PairType a b) e = let z : ◌≡◌ {A = ℕ} 0 1 = cc in absurd (omega arith)
+fun_form ts A B UnitType e = cc
+fun_form ts A B IntType e = cc
+fun_form ts A B (PairType a b) e = cc
 fun_form ts A B (FunType a b) e = (a, b, refl, cc, cc)
 
 module _ (rows : List Row) (fine : Faultless rows) where

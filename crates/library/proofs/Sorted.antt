@@ -26,36 +26,36 @@ use Rattle.library.proofs.Lists.{none_some, some_same, nth_inside, nth_there, nt
 
 -- which row says it
 pub type_form_row : (o : Option Row) (v : TypeForm) → type_form_of o ≡ Some v → (m : ℕ) × (o ≡ Some (TypeRow m v))
-type_form_row None v e = absurd (none_some e)
+type_form_row None v e = cc
 type_form_row (Some (TypeRow n f)) v e = (n, let s : f ≡ v = some_same e in ap (λ g. Some (TypeRow n g)) s)
-type_form_row (Some (VariableRow n t)) v e = absurd (none_some e)
-type_form_row (Some (MethodRow n f)) v e = absurd (none_some e)
-type_form_row (Some (GlobalRow n t u)) v e = absurd (none_some e)
-type_form_row (Some (TermRow n f)) v e = absurd (none_some e)
+type_form_row (Some (VariableRow n t)) v e = cc
+type_form_row (Some (MethodRow n f)) v e = cc
+type_form_row (Some (GlobalRow n t u)) v e = cc
+type_form_row (Some (TermRow n f)) v e = cc
 
 pub variable_row : (o : Option Row) (v : ℕ) → variable_type_of o ≡ Some v → (m : ℕ) × (o ≡ Some (VariableRow m v))
-variable_row None v e = absurd (none_some e)
-variable_row (Some (TypeRow n f)) v e = absurd (none_some e)
+variable_row None v e = cc
+variable_row (Some (TypeRow n f)) v e = cc
 variable_row (Some (VariableRow n t)) v e = (n, let s : t ≡ v = some_same e in ap (λ g. Some (VariableRow n g)) s)
-variable_row (Some (MethodRow n f)) v e = absurd (none_some e)
-variable_row (Some (GlobalRow n t u)) v e = absurd (none_some e)
-variable_row (Some (TermRow n f)) v e = absurd (none_some e)
+variable_row (Some (MethodRow n f)) v e = cc
+variable_row (Some (GlobalRow n t u)) v e = cc
+variable_row (Some (TermRow n f)) v e = cc
 
 pub method_row : (o : Option Row) (v : MethodForm) → method_of o ≡ Some v → (m : ℕ) × (o ≡ Some (MethodRow m v))
-method_row None v e = absurd (none_some e)
-method_row (Some (TypeRow n f)) v e = absurd (none_some e)
-method_row (Some (VariableRow n t)) v e = absurd (none_some e)
+method_row None v e = cc
+method_row (Some (TypeRow n f)) v e = cc
+method_row (Some (VariableRow n t)) v e = cc
 method_row (Some (MethodRow n f)) v e = (n, let s : f ≡ v = some_same e in ap (λ g. Some (MethodRow n g)) s)
-method_row (Some (GlobalRow n t u)) v e = absurd (none_some e)
-method_row (Some (TermRow n f)) v e = absurd (none_some e)
+method_row (Some (GlobalRow n t u)) v e = cc
+method_row (Some (TermRow n f)) v e = cc
 
 pub method_type_row : (o : Option Row) (v : ℕ) → method_type_of o ≡ Some v → (m : ℕ) × (f : MethodForm) × (o ≡ Some (MethodRow m f)) × (method_type f ≡ v)
-method_type_row None v e = absurd (none_some e)
-method_type_row (Some (TypeRow n f)) v e = absurd (none_some e)
-method_type_row (Some (VariableRow n t)) v e = absurd (none_some e)
+method_type_row None v e = cc
+method_type_row (Some (TypeRow n f)) v e = cc
+method_type_row (Some (VariableRow n t)) v e = cc
 method_type_row (Some (MethodRow n f)) v e = (n, f, refl, some_same e)
-method_type_row (Some (GlobalRow n t u)) v e = absurd (none_some e)
-method_type_row (Some (TermRow n f)) v e = absurd (none_some e)
+method_type_row (Some (GlobalRow n t u)) v e = cc
+method_type_row (Some (TermRow n f)) v e = cc
 
 pub global_type_row : (o : Option Row) (v : ℕ) → global_type_of o ≡ Some v → (m : ℕ) × (u : ℕ) × (o ≡ Some (GlobalRow m v u))
 global_type_row None v h = absurd (none_some h)
@@ -66,11 +66,11 @@ global_type_row (Some (GlobalRow n t e)) v h = (n, e, let s : t ≡ v = some_sam
 global_type_row (Some (TermRow n f)) v h = absurd (none_some h)
 
 pub term_row : (o : Option Row) (v : TermForm) → term_of o ≡ Some v → (m : ℕ) × (o ≡ Some (TermRow m v))
-term_row None v e = absurd (none_some e)
-term_row (Some (TypeRow n f)) v e = absurd (none_some e)
-term_row (Some (VariableRow n t)) v e = absurd (none_some e)
-term_row (Some (MethodRow n f)) v e = absurd (none_some e)
-term_row (Some (GlobalRow n t u)) v e = absurd (none_some e)
+term_row None v e = cc
+term_row (Some (TypeRow n f)) v e = cc
+term_row (Some (VariableRow n t)) v e = cc
+term_row (Some (MethodRow n f)) v e = cc
+term_row (Some (GlobalRow n t u)) v e = cc
 term_row (Some (TermRow n f)) v e = (n, let s : f ≡ v = some_same e in ap (λ g. Some (TermRow n g)) s)
 
 -- what can't fail to hold, holds
@@ -144,7 +144,7 @@ pub record Origin (s : Section) (rows : List Row) (n : ℕ) (row : Row) : Type 0
   pub number : length (section_rows s (take index rows)) ≡ n
 
 pub origin : (s : Section) (rows : List Row) (n : ℕ) (row : Row) → slice_get (section_rows s rows) n ≡ Some row → Origin s rows n row
-origin s [] n row e = absurd (none_some e)
+origin s [] n row e = cc
 origin s (r ∷ rs) n row e = step (λ k. origin s rs k row) (eqb (place (section r)) (place s)) refl n e
   where
     later : (b : Bool) → eqb (place (section r)) (place s) ≡ b → (k m : ℕ) → Origin s rs k row → cond b (suc k) k ≡ m → Origin s (r ∷ rs) m row
@@ -158,7 +158,7 @@ origin s (r ∷ rs) n row e = step (λ k. origin s rs k row) (eqb (place (sectio
 
 -- and the other way round
 pub in_section : (s : Section) (rows : List Row) (i : ℕ) (row : Row) → slice_get rows i ≡ Some row → place (section row) ≡ place s → slice_get (section_rows s rows) (length (section_rows s (take i rows))) ≡ Some row
-in_section s [] i row e same = absurd (none_some e)
+in_section s [] i row e same = cc
 in_section s (r ∷ rs) zero row e same = ap (λ b. slice_get (cond b (r ∷ section_rows s rs) (section_rows s rs)) 0) (eq-eqb _ _ (ap (λ x. place (section x)) (some_same e) ∙ same)) ∙ e
 in_section s (r ∷ rs) (suc i) row e same = step (eqb (place (section r)) (place s)) (in_section s rs i row e same)
   where
@@ -192,7 +192,7 @@ section_part s (r ∷ rs) (suc i) = step (eqb (place (section r)) (place s)) (se
 
 -- one row more
 pub section_more : (s : Section) (rows : List Row) (i : ℕ) (row : Row) → slice_get rows i ≡ Some row → length (section_rows s (take (suc i) rows)) ≡ length (section_rows s (take i rows)) + cond (eqb (place (section row)) (place s)) 1 0
-section_more s [] i row e = absurd (none_some e)
+section_more s [] i row e = cc
 section_more s (r ∷ rs) zero row e = ap (λ x. length (section_rows s (x ∷ []))) (some_same e) ∙ step (eqb (place (section row)) (place s))
   where
     step : (b : Bool) → length (cond b (row ∷ []) []) ≡ 0 + cond b 1 0
