@@ -6,7 +6,7 @@ use Rattle.rows.specs.declared.forms.Row.{Row}
 use Rattle.rows.specs.declared.forms.Section.TheVariants.{Terms}
 use Rattle.rows.specs.Faults.{Faultless}
 use Rattle.library.specs.Listing.{section_rows, global_type_at}
-use Rattle.library.proofs.Lists.{all_pass, first_fails, none_some, some_same}
+use Rattle.library.proofs.Lists.{all_pass, first_fails, some_same}
 use Rattle.faults.specs.declared.LibraryFault.TheVariants.{Typing}
 use Rattle.rows.specs.declared.forms.MethodForm.{MethodForm}
 use Rattle.rows.specs.declared.forms.Row.TheVariants.{Method as MethodRow, Global as GlobalRow}

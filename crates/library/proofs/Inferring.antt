@@ -27,17 +27,17 @@ use Rattle.library.proofs.Numbered.{listed_as, named_at, tree_once, same_tree_fo
 -- what follows from a type that is wanted
 number_said : (o : Option ℕ) (w : Wanted) → by_number o ≡ Some w → (n : ℕ) × (o ≡ Some n) × (w ≡ Number n)
 number_said None w e = cc
-number_said (Some n) w e = (n, refl, sym (some_same e))
+number_said (Some n) w e = (n, refl, cc)
 
 function_said : (o p : Option ℕ) (w : Wanted) → function_of o p ≡ Some w → (a : ℕ) × (b : ℕ) × (o ≡ Some a) × (p ≡ Some b) × (w ≡ Form (FunType a b))
 function_said None p w e = cc
 function_said (Some a) None w e = cc
-function_said (Some a) (Some b) w e = (a, b, refl, refl, sym (some_same e))
+function_said (Some a) (Some b) w e = (a, b, refl, refl, cc)
 
 pair_said : (o p : Option ℕ) (w : Wanted) → pair_of o p ≡ Some w → (a : ℕ) × (b : ℕ) × (o ≡ Some a) × (p ≡ Some b) × (w ≡ Form (PairType a b))
 pair_said None p w e = cc
 pair_said (Some a) None w e = cc
-pair_said (Some a) (Some b) w e = (a, b, refl, refl, sym (some_same e))
+pair_said (Some a) (Some b) w e = (a, b, refl, refl, cc)
 
 kept_said : (b : Bool) (o : Option Wanted) (w : Wanted) → cond b o None ≡ Some w → (b ≡ true) × (o ≡ Some w)
 kept_said true o w e = (refl, e)
@@ -52,14 +52,14 @@ first_said : (o : Option TypeForm) (w : Wanted) → first_part o ≡ Some w → 
 first_said None w e = cc
 first_said (Some UnitType) w e = cc
 first_said (Some IntType) w e = cc
-first_said (Some (PairType a b)) w e = (a, b, refl, sym (some_same e))
+first_said (Some (PairType a b)) w e = (a, b, refl, cc)
 first_said (Some (FunType a b)) w e = cc
 
 second_said : (o : Option TypeForm) (w : Wanted) → second_part o ≡ Some w → (a : ℕ) × (b : ℕ) × (o ≡ Some (PairType a b)) × (w ≡ Number b)
 second_said None w e = cc
 second_said (Some UnitType) w e = cc
 second_said (Some IntType) w e = cc
-second_said (Some (PairType a b)) w e = (a, b, refl, sym (some_same e))
+second_said (Some (PairType a b)) w e = (a, b, refl, cc)
 second_said (Some (FunType a b)) w e = cc
 
 result_said : (p : Option ℕ) (o : Option TypeForm) (w : Wanted) → result_for p o ≡ Some w → (a : ℕ) × (b : ℕ) × (o ≡ Some (FunType a b)) × (p ≡ Some a) × (w ≡ Number b)

@@ -1,7 +1,7 @@
 -- What rows without text fault say of their sections. Assumes nothing.
 use Rattle.std.proofs.Common.{◌≡◌, ℕ, zero, suc, ◌+◌, ◌<◌, ◌≤◌, Bool, true, false, cond, eqb, List, [], ◌∷◌, ◌++◌, length, get_or, take, drop, Some, None, Option, unwrap_or, sym, refl, ap, ◌∙◌, subst, inl, ⊎_elim, arith, lit<, length-append, eq-eqb, true-eqb}
 use Rattle.std.specs.List.{slice_get, AllByRecursion}
-use Rattle.std.proofs.lemmas.Option.{slice_get-get_or}
+use Rattle.std.proofs.lemmas.Option.{slice_get-get_or, unwrap_or-slice_get}
 use Rattle.std.proofs.str.Laws.{order}
 use Rattle.faults.specs.declared.TextFault.TheVariants.{Order, Reference, Limit, Repeat}
 use Rattle.rows.specs.declared.forms.TypeForm.{TypeForm}
@@ -22,12 +22,12 @@ use Rattle.rows.specs.Types.{Tree, unit, tree, types, types_after, with_row}
 use Rattle.rows.specs.Faults.{Faultless, InOrder, RefersBack, RowFault, NoneOf}
 use Rattle.rows.proofs.Admits.{types_count}
 use Rattle.library.specs.Listing.{section_rows, type_form_of, variable_type_of, method_of, method_type, method_type_of, global_type_of, term_of, type_form_at, term_at, variable_type_at, method_type_at, global_type_at}
-use Rattle.library.proofs.Lists.{none_some, some_same, nth_inside, nth_there, nth_left, nth_end, nth_take, getD_nth, parted}
+use Rattle.library.proofs.Lists.{some_same, nth_inside, nth_there, nth_left, nth_end, nth_take, parted}
 
 -- which row says it
 pub type_form_row : (o : Option Row) (v : TypeForm) → type_form_of o ≡ Some v → (m : ℕ) × (o ≡ Some (TypeRow m v))
 type_form_row None v e = cc
-type_form_row (Some (TypeRow n f)) v e = (n, let s : f ≡ v = some_same e in ap (λ g. Some (TypeRow n g)) s)
+type_form_row (Some (TypeRow n f)) v e = (n, cc)
 type_form_row (Some (VariableRow n t)) v e = cc
 type_form_row (Some (MethodRow n f)) v e = cc
 type_form_row (Some (GlobalRow n t u)) v e = cc
@@ -36,7 +36,7 @@ type_form_row (Some (TermRow n f)) v e = cc
 pub variable_row : (o : Option Row) (v : ℕ) → variable_type_of o ≡ Some v → (m : ℕ) × (o ≡ Some (VariableRow m v))
 variable_row None v e = cc
 variable_row (Some (TypeRow n f)) v e = cc
-variable_row (Some (VariableRow n t)) v e = (n, let s : t ≡ v = some_same e in ap (λ g. Some (VariableRow n g)) s)
+variable_row (Some (VariableRow n t)) v e = (n, cc)
 variable_row (Some (MethodRow n f)) v e = cc
 variable_row (Some (GlobalRow n t u)) v e = cc
 variable_row (Some (TermRow n f)) v e = cc
@@ -45,7 +45,7 @@ pub method_row : (o : Option Row) (v : MethodForm) → method_of o ≡ Some v �
 method_row None v e = cc
 method_row (Some (TypeRow n f)) v e = cc
 method_row (Some (VariableRow n t)) v e = cc
-method_row (Some (MethodRow n f)) v e = (n, let s : f ≡ v = some_same e in ap (λ g. Some (MethodRow n g)) s)
+method_row (Some (MethodRow n f)) v e = (n, cc)
 method_row (Some (GlobalRow n t u)) v e = cc
 method_row (Some (TermRow n f)) v e = cc
 
@@ -58,12 +58,12 @@ method_type_row (Some (GlobalRow n t u)) v e = cc
 method_type_row (Some (TermRow n f)) v e = cc
 
 pub global_type_row : (o : Option Row) (v : ℕ) → global_type_of o ≡ Some v → (m : ℕ) × (u : ℕ) × (o ≡ Some (GlobalRow m v u))
-global_type_row None v h = absurd (none_some h)
-global_type_row (Some (TypeRow n f)) v h = absurd (none_some h)
-global_type_row (Some (VariableRow n t)) v h = absurd (none_some h)
-global_type_row (Some (MethodRow n f)) v h = absurd (none_some h)
-global_type_row (Some (GlobalRow n t e)) v h = (n, e, let s : t ≡ v = some_same h in ap (λ g. Some (GlobalRow n g e)) s)
-global_type_row (Some (TermRow n f)) v h = absurd (none_some h)
+global_type_row None v h = cc
+global_type_row (Some (TypeRow n f)) v h = cc
+global_type_row (Some (VariableRow n t)) v h = cc
+global_type_row (Some (MethodRow n f)) v h = cc
+global_type_row (Some (GlobalRow n t e)) v h = (n, e, cc)
+global_type_row (Some (TermRow n f)) v h = cc
 
 pub term_row : (o : Option Row) (v : TermForm) → term_of o ≡ Some v → (m : ℕ) × (o ≡ Some (TermRow m v))
 term_row None v e = cc
@@ -71,7 +71,7 @@ term_row (Some (TypeRow n f)) v e = cc
 term_row (Some (VariableRow n t)) v e = cc
 term_row (Some (MethodRow n f)) v e = cc
 term_row (Some (GlobalRow n t u)) v e = cc
-term_row (Some (TermRow n f)) v e = (n, let s : f ≡ v = some_same e in ap (λ g. Some (TermRow n g)) s)
+term_row (Some (TermRow n f)) v e = (n, cc)
 
 -- what can't fail to hold, holds
 less_stable : (a b : ℕ) → ((a < b → ⊥) → ⊥) → a < b
@@ -246,12 +246,12 @@ same_tree : (n : ℕ) (ts us : List Tree) (f : TypeForm) → ((k : ℕ) → k < 
 same_tree n ts us UnitType same p = refl
 same_tree n ts us IntType same p = refl
 same_tree n ts us (PairType a b) same p =
-    let x : get_or ts a unit ≡ get_or us a unit = getD_nth ts a unit ∙ ap (λ o. unwrap_or o unit) (same a p.0) ∙ sym (getD_nth us a unit) in
-    let y : get_or ts b unit ≡ get_or us b unit = getD_nth ts b unit ∙ ap (λ o. unwrap_or o unit) (same b p.1) ∙ sym (getD_nth us b unit) in
+    let x : get_or ts a unit ≡ get_or us a unit = sym (unwrap_or-slice_get ts a unit) ∙ ap (λ o. unwrap_or o unit) (same a p.0) ∙ unwrap_or-slice_get us a unit in
+    let y : get_or ts b unit ≡ get_or us b unit = sym (unwrap_or-slice_get ts b unit) ∙ ap (λ o. unwrap_or o unit) (same b p.1) ∙ unwrap_or-slice_get us b unit in
     cc
 same_tree n ts us (FunType a b) same p =
-    let x : get_or ts a unit ≡ get_or us a unit = getD_nth ts a unit ∙ ap (λ o. unwrap_or o unit) (same a p.0) ∙ sym (getD_nth us a unit) in
-    let y : get_or ts b unit ≡ get_or us b unit = getD_nth ts b unit ∙ ap (λ o. unwrap_or o unit) (same b p.1) ∙ sym (getD_nth us b unit) in
+    let x : get_or ts a unit ≡ get_or us a unit = sym (unwrap_or-slice_get ts a unit) ∙ ap (λ o. unwrap_or o unit) (same a p.0) ∙ unwrap_or-slice_get us a unit in
+    let y : get_or ts b unit ≡ get_or us b unit = sym (unwrap_or-slice_get ts b unit) ∙ ap (λ o. unwrap_or o unit) (same b p.1) ∙ unwrap_or-slice_get us b unit in
     cc
 
 parts_of_row : (before : List Row) (m : ℕ) (f : TypeForm) → RefersBack before (TypeRow m f) → PartsBelow (count Types before) f

@@ -30,7 +30,7 @@ use Rattle.library.specs.Scopes.{ScopedBy, free_in}
 use Rattle.library.specs.Facts.{free_sets, type_numbers}
 use Rattle.library.specs.declared.facts.TermFacts.{TermFacts}
 use Rattle.library.specs.Mounting.{Mounts}
-use Rattle.library.proofs.Lists.{take_all, take_past}
+use Rattle.library.proofs.Lists.{take_all}
 use Rattle.library.proofs.Sorted.{few_rows, running_row, running_now, section_more, section_grows, section_part}
 use Rattle.library.proofs.Inferring.{Known, no_type, unlisted_type, no_definition}
 use Rattle.library.proofs.Tables.{typed_more, scoped_more, known_all}
@@ -169,4 +169,4 @@ module _ (rows : List Row) (fine : Faultless rows) (i : ℕ) (known : List TermF
 
 -- with all rows
 pub found_all : (rows : List Row) (i : ℕ) (known : List TermFacts) → length rows ≤ i → FoundSoFar rows i known → TypedBy rows (type_numbers known) × ScopedBy rows (free_sets known) × (length known ≡ length (section_rows Terms rows))
-found_all rows i known all sofar = (sofar.typed, sofar.scoped, sofar.long ∙ ap (λ rs. length (section_rows Terms rs)) (take_past i rows all))
+found_all rows i known all sofar = (sofar.typed, sofar.scoped, sofar.long ∙ ap (λ rs. length (section_rows Terms rs)) (Rattle.std.proofs.lemmas.List.take_all i rows all))

@@ -10,11 +10,11 @@ use Rattle.rows.specs.Faults.{Faultless}
 use Rattle.library.specs.Listing.{section_rows, term_at}
 use Rattle.library.specs.Typing.{HasType}
 use Rattle.library.proofs.Lists.{some_same, nth_inside}
-use Rattle.std.proofs.lemmas.List.{take-append-le}
+use Rattle.std.proofs.lemmas.List.{length-take, take-append-le}
 use Rattle.std.proofs.str.Laws.{order}
 use Rattle.library.specs.Inference.{TypedBy, gives, type_of, types_term}
 use Rattle.library.specs.Scopes.{ScopedBy, free_in}
-use Rattle.library.proofs.Lists.{nth_left, nth_end, nth_take, take_all, length_take_most}
+use Rattle.library.proofs.Lists.{nth_left, nth_end, nth_take, take_all}
 use Rattle.library.proofs.Sorted.{term_there}
 use Rattle.library.proofs.Inferring.{Known, found}
 
@@ -66,7 +66,7 @@ module _ (rows : List Row) (fine : Faultless rows) (known : List ℕ) (typed : T
       found rows fine (take j known) (λ i n h. known_below fuel i n (short i n h) (sym (nth_take known i j (shorter i n h)) ∙ h)) j f.0 f.1 k (given_number (type_of rows (take j known) f.0) k (typed_at rows known typed j k f.0 e f.1))
     where
       shorter : (i n : ℕ) → slice_get (take j known) i ≡ Some n → i < j
-      shorter i n h = let p = nth_inside (take j known) i n h in let q = length_take_most j known in omega arith
+      shorter i n h = let p = nth_inside (take j known) i n h in omega (arith, length-take j known)
 
       short : (i n : ℕ) → slice_get (take j known) i ≡ Some n → i < fuel
       short i n h = let p = shorter i n h in omega arith

@@ -6,7 +6,7 @@ use Rattle.rows.specs.Faults.{Faultless}
 use Rattle.rows.specs.Tallies.{Tallied}
 use Rattle.library.specs.declared.refusal.MountFault.{MountFault}
 use Rattle.library.specs.declared.refusal.MountFault.TheVariants.{Refused}
-use Rattle.library.proofs.Lists.{take_past}
+use Rattle.std.proofs.lemmas.List.{take_all}
 use Rattle.library.proofs.Mapped.{Mapped, mapped_err, mapped_ok}
 use Rattle.library.proofs.Steps.{admitted_next, blank, place_few, text_refused}
 use Rattle.library.proofs.admitting.admit_all.Goals as goal
@@ -30,5 +30,5 @@ returns-in_err-tally c =
 
 pub returns : goal.returns
 returns c =
-    let all = take_past c.loop-place.place c.args.rows.now c.loop-place-test.false in
+    let all = take_all c.loop-place.place c.args.rows.now c.loop-place-test.false in
     record { tally_or_first_fault = (subst Faultless all c.loop-place.invariant.0, subst (λ rs. Tallied rs c.loop-place.tally.counts c.loop-place.tally.leaves) all c.loop-place.invariant.1) }
