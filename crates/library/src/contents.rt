@@ -14,6 +14,7 @@ ghost use Rattle.std.specs.Option.{option_map};
 use super::facts::TermFacts;
 use super::library::Library;
 use super::listing::Listing;
+use super::typing::type_number_at;
 use rows::{Counts, MethodForm, Row, Tally, TermForm, TypeForm};
 
 impl Library {
@@ -121,8 +122,6 @@ impl Library {
     pub fn term_type(&self, number: u32) -> Option<u32>
         ensures type_of_term { MatchOption result (term_at (library_rows self.now) number ≡ None) (λ n. (type : Tree) × (slice_get (types (library_rows self.now)) n ≡ Some type) × HasType (library_rows self.now) number type) }
     {
-        self.term_facts()
-            .get(number as usize)
-            .map(|facts| facts.type_number)
+        type_number_at(self.term_facts(), number)
     }
 }

@@ -1,12 +1,22 @@
 //! The rules for methods and globals, tried where the types and the free variables of all terms are known.
-ghost use Rattle.std.specs.Prelude.{◌≡◌, not, position};
+ghost use Rattle.std.specs.Prelude.{◌≡◌, ◌&&◌, Some, not, position};
 ghost use Rattle.library.specs.Facts.{free_sets, type_numbers};
+ghost use Rattle.library.specs.Inference.{same_number};
 ghost use Rattle.library.specs.Judging.{closed_function, global_stands, is_function, method_stands, stands};
 ghost use Rattle.library.specs.Listing.{type_form_at};
+ghost use Rattle.std.specs.List.{slice_get};
 
 use super::facts::TermFacts;
 use super::listing::Listing;
 use rows::{MethodForm, Row, TermForm, TypeForm};
+
+// Whether a term has this type and no free variable.
+fn closed_of_type(terms: &[TermFacts], number: u32, term: u32) -> bool
+    ensures no_free_variable { result ≡ same_number (Some number) (slice_get (type_numbers terms.now) term) && same_number (Some 0) (slice_get (free_sets terms.now) term) }
+{
+    terms.get(term as usize).is_some_and(|facts| facts.type_number == number
+        && facts.free.is_empty())
+}
 
 impl Listing<'_> {
     // Whether the type of a number is a function type.
@@ -22,8 +32,7 @@ impl Listing<'_> {
     {
         self.is_function(number)
             && matches!(self.term(term), Some(TermForm::Lam(_, _)))
-            && terms.get(term as usize).is_some_and(|facts| facts.type_number == number
-                && facts.free.is_empty())
+            && closed_of_type(terms, number, term)
     }
 
     // Whether a method keeps its rule.

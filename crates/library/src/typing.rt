@@ -11,8 +11,8 @@ use super::wanted::Wanted;
 use faults::TypingFault;
 use rows::{TermForm, TypeForm};
 
-// The types of the terms so far, by number.
-fn type_so_far(known: &[TermFacts], term: u32) -> Option<u32>
+// The number of the type of an earlier term.
+pub(crate) fn type_number_at(known: &[TermFacts], term: u32) -> Option<u32>
     ensures known_type { result ≡ slice_get (type_numbers known.now) term }
 {
     known.get(term as usize).map(|facts| facts.type_number)
@@ -23,7 +23,7 @@ impl Listing<'_> {
     fn form_so_far(self, known: &[TermFacts], term: u32) -> Option<TypeForm>
         ensures form_of_type { result ≡ form_named self.entry.rows.now (slice_get (type_numbers known.now) term) }
     {
-        self.type_form(type_so_far(known, term)?)
+        self.type_form(type_number_at(known, term)?)
     }
 
     // Whether an earlier term is an int.
@@ -38,7 +38,7 @@ impl Listing<'_> {
         ensures by_its_rule { result ≡ wanted self.entry.rows.now (type_numbers known.now) (App function argument) }
     {
         match self.form_so_far(known, function)? {
-            TypeForm::Fun(taken, given) if taken == type_so_far(known, argument)? => {
+            TypeForm::Fun(taken, given) if taken == type_number_at(known, argument)? => {
                 Some(Wanted::Number(given))
             }
             _ => None,
@@ -55,8 +55,8 @@ impl Listing<'_> {
     ) -> Option<Wanted>
         ensures by_its_rule { result ≡ wanted self.entry.rows.now (type_numbers known.now) (If condition left right) }
     {
-        let branch = type_so_far(known, left)?;
-        let alike = type_so_far(known, right)? == branch;
+        let branch = type_number_at(known, left)?;
+        let alike = type_number_at(known, right)? == branch;
         (alike && self.int_so_far(known, condition)).then_some(Wanted::Number(branch))
     }
 
@@ -72,10 +72,10 @@ impl Listing<'_> {
             TermForm::Get(r) => self.global_type(r).map(Wanted::Number),
             TermForm::Lam(x, a) => {
                 let taken = self.variable_type(x)?;
-                Some(Wanted::Form(TypeForm::Fun(taken, type_so_far(known, a)?)))
+                Some(Wanted::Form(TypeForm::Fun(taken, type_number_at(known, a)?)))
             }
             TermForm::Set(r, a) => {
-                let kept = self.global_type(r)? == type_so_far(known, a)?;
+                let kept = self.global_type(r)? == type_number_at(known, a)?;
                 kept.then_some(Wanted::Form(TypeForm::Unit))
             }
             TermForm::Op(_, a, b) => {
@@ -83,8 +83,8 @@ impl Listing<'_> {
                 kept.then_some(Wanted::Form(TypeForm::Int))
             }
             TermForm::Pair(a, b) => {
-                let first = type_so_far(known, a)?;
-                Some(Wanted::Form(TypeForm::Pair(first, type_so_far(known, b)?)))
+                let first = type_number_at(known, a)?;
+                Some(Wanted::Form(TypeForm::Pair(first, type_number_at(known, b)?)))
             }
             TermForm::Fst(a) => match self.form_so_far(known, a)? {
                 TypeForm::Pair(first, _) => Some(Wanted::Number(first)),
@@ -97,8 +97,8 @@ impl Listing<'_> {
             TermForm::App(f, a) => self.type_of_call(known, f, a),
             TermForm::If(c, a, b) => self.type_of_branches(known, c, a, b),
             TermForm::Let(x, a, b) => {
-                let kept = self.variable_type(x)? == type_so_far(known, a)?;
-                kept.then_some(Wanted::Number(type_so_far(known, b)?))
+                let kept = self.variable_type(x)? == type_number_at(known, a)?;
+                kept.then_some(Wanted::Number(type_number_at(known, b)?))
             }
             TermForm::Assert(a) => self
                 .int_so_far(known, a)

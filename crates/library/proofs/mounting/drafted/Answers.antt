@@ -5,7 +5,6 @@ use Rattle.rows.specs.Tallies.{CountsOf}
 use Rattle.library.specs.Facts.{type_numbers}
 use Rattle.library.specs.Inference.{LeavesBy, Sectioned, TypedBy}
 use Rattle.library.specs.Mounting.{WellTyped}
-use Rattle.library.specs.declared.refusal.MountFault.TheVariants.{Memory}
 use Rattle.std.proofs.lemmas.Grind.{common_steps}
 use Rattle.library.proofs.Sorted.{count_length, few_rows, sectioned}
 use Rattle.library.proofs.Granting.{found_through, granted_definitions, granted_all, refused_by}
@@ -16,9 +15,6 @@ pub invariant_of-listing : goal.invariant_of-listing
 invariant_of-listing c =
     let given = c.in_ok-tally.ensures.tally_or_first_fault in
     record { sectioned = subst (Sectioned c.args.rows.now) (sym c.counts.ensures.counts_of_tally) (sectioned c.args.rows.now given.0 _ given.1.counts) }
-
-pub facts_of_terms-requires : goal.facts_of_terms-requires
-facts_of_terms-requires c = record { faultless = c.in_ok-tally.ensures.tally_or_first_fault.0 }
 
 pub fault_of_row-requires : goal.fault_of_row-requires
 fault_of_row-requires c =
@@ -60,6 +56,3 @@ returns-in_err-tally c = answered_exit c.args.rows.now _ _ _ c.from_residual.ens
 
 pub returns-in_err-term_facts : goal.returns-in_err-term_facts
 returns-in_err-term_facts c = answered_exit c.args.rows.now _ _ _ c.from_residual-in_err-term_facts.ensures.1 c.in_err-term_facts.ensures.facts_or_first_fault
-
-pub returns-in_err-to_vec : goal.returns-in_err-to_vec
-returns-in_err-to_vec c = answered_exit c.args.rows.now _ _ Memory c.from_residual-in_err-to_vec.ensures.1 tt

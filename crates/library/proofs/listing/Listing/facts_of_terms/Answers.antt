@@ -13,7 +13,7 @@ use Rattle.library.specs.declared.refusal.MountFault.{MountFault}
 use Rattle.library.specs.declared.refusal.MountFault.TheVariants.{Refused}
 use Rattle.library.proofs.Mapped.{Mapped, mapped_err, mapped_ok}
 use Rattle.library.proofs.Sorted.{few_rows}
-use Rattle.library.proofs.Steps.{FoundSoFar, blank, found_all, found_refused, found_with, found_without}
+use Rattle.library.proofs.Steps.{FoundSoFar, blank, found_refused, found_with, found_without}
 use Rattle.library.proofs.listing.Listing.facts_of_terms.Goals as goal
 use Rattle.library.proofs.listing.Listing.facts_of_terms.Goals.{in-Term+in_ok-type_number+in_ok-push, in_default}
 
@@ -52,6 +52,3 @@ returns-in_err-type_number c =
     let found : type_of rows (type_numbers (vec_items c.loop-place.known)) c.in-Term.form ≡ Err first.0 =
     ap (λ ks. type_of rows (type_numbers ks) c.in-Term.form) (sym c.deref.ensures.value) ∙ sym c.type_of.ensures.listed_type ∙ first.1 in
     rw (p.1, p.2) (record { facts_or_first_fault = found_refused rows c.requires.faultless i (vec_items c.loop-place.known) c.loop-place.invariant c.in-Term.field-0 c.in-Term.form at first.0 found _ first.2 })
-
-pub returns : goal.returns
-returns c = record { facts_or_first_fault = found_all c.args.self.rows.now c.loop-place.place (vec_items c.loop-place.known) c.loop-place-test.false c.loop-place.invariant }
