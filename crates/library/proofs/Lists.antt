@@ -1,10 +1,9 @@
 -- Lists by place, and the rows of a section. Assumes nothing.
-use Rattle.std.proofs.Common.{◌≡◌, ℕ, zero, suc, ◌<◌, ◌≤◌, Bool, true, false, cond, eqb, List, [], ◌∷◌, ◌++◌, length, not, take, drop, Some, None, Option, MatchOption, Bor, sym, refl, ap, ◌∙◌, subst, arith, eq-eqb, true-eqb}
+use Rattle.std.proofs.Common.{◌≡◌, ℕ, zero, suc, ◌<◌, ◌≤◌, Bool, true, false, cond, eqb, List, [], ◌∷◌, ◌++◌, length, not, take, drop, Some, None, Option, MatchOption, sym, refl, ap, ◌∙◌, subst, arith, eq-eqb, true-eqb}
 use Rattle.std.specs.List.{position, position_or_len, slice_get}
 use Rattle.std.proofs.lemmas.List.Sums.{fails_before_first}
 use Rattle.std.proofs.lemmas.List.Quantifiers.{position-Some}
-use Rattle.std.specs.Option.{option_copied, option_map}
-use Rattle.std.specs.Slice.{IsItemAt}
+use Rattle.std.specs.Option.{option_map}
 use Rattle.std.proofs.lemmas.Grind.{common_steps}
 use Rattle.std.proofs.Math.Seq.{drop-cons, take-length}
 use Rattle.std.proofs.lemmas.List.{take-append-drop}
@@ -30,10 +29,6 @@ pub nth_there : {X : Type 0} (xs : List X) (i : ℕ) → i < length xs → (x : 
 nth_there [] i lt = absurd (omega arith)
 nth_there (x ∷ xs) zero lt = (x, refl)
 nth_there (x ∷ xs) (suc i) lt = nth_there xs i (omega arith)
-
--- what `get` lends, copied
-pub item_copied : {X : Type 0} (xs : List X) (i : ℕ) (lent : Option (Bor X)) → IsItemAt xs i lent → option_copied lent ≡ slice_get xs i
-item_copied xs i lent h = grind (arith, common_steps, gets)
 
 pub nth_left : {X : Type 0} (xs ys : List X) (i : ℕ) → i < length xs → slice_get (xs ++ ys) i ≡ slice_get xs i
 nth_left xs ys i lt = grind (arith, common_steps, gets)

@@ -1,5 +1,5 @@
 -- What one row more adds to what is known of the rows before it. Assumes nothing.
-use Rattle.std.proofs.Common.{◌≡◌, ℕ, suc, ◌+◌, ◌<◌, ◌≤◌, true, cond, eqb, List, [], ◌∷◌, ◌++◌, length, get_or, take, Some, Ok, Err, sym, refl, ap, ◌∙◌, subst, ⊎_elim, add-one, arith, length-append}
+use Rattle.std.proofs.Common.{◌≡◌, ℕ, suc, ◌+◌, ◌<◌, ◌≤◌, true, cond, eqb, List, [], ◌∷◌, ◌++◌, length, get_or, take, Some, Ok, Err, sym, refl, ap, ◌∙◌, subst, add-one, arith, length-append}
 use Rattle.std.specs.List.{slice_get}
 use Rattle.std.proofs.lemmas.Option.{slice_get-get_or}
 use Rattle.faults.specs.declared.TypingFault.{TypingFault}
@@ -11,73 +11,27 @@ use Rattle.rows.specs.declared.forms.Section.TheVariants.{Terms}
 use Rattle.rows.specs.Faults.{Faultless}
 use Rattle.library.specs.Listing.{section_rows, term_at}
 use Rattle.library.specs.Typing.{TermIs}
-use Rattle.library.proofs.Lists.{some_same}
-use Rattle.std.proofs.lemmas.List.{length-map, map-append, take-append-le, get_or_append_left, get_or_push, take_more, length-take-le}
-use Rattle.rows.specs.declared.tally.Counts.{Counts}
-use Rattle.rows.specs.Tallies.{Tallied}
+use Rattle.std.proofs.lemmas.List.{length-map, map-append, length-take-le}
 use Rattle.library.specs.declared.refusal.MountFault.{MountFault}
-use Rattle.std.proofs.str.Laws.{order}
 use Rattle.faults.specs.declared.TextFault.{TextFault}
-use Rattle.faults.specs.declared.TextFault.TheVariants.{Number as NumberFault, Form as FormFault, Order, Reference, Limit, Repeat}
-use Rattle.faults.specs.Numbers.{text_number}
 use Rattle.faults.specs.declared.LibraryFault.TheVariants.{Text, Typing}
 use Rattle.rows.specs.declared.forms.Row.TheVariants.{«Type» as TypeRow, Variable as VariableRow, Method as MethodRow, Global as GlobalRow, Term as TermRow}
 use Rattle.rows.specs.Sections.{section, place}
-use Rattle.rows.specs.Faults.{Least, NoneOf, RowFault, NumbersInRange}
+use Rattle.rows.specs.Faults.{Least, RowFault}
 use Rattle.library.specs.declared.refusal.MountFault.TheVariants.{Refused}
 use Rattle.library.specs.Inference.{TypedBy, type_of}
 use Rattle.library.specs.Scopes.{ScopedBy, free_in}
 use Rattle.library.specs.Facts.{free_sets, type_numbers}
 use Rattle.library.specs.declared.facts.TermFacts.{TermFacts}
 use Rattle.library.specs.Mounting.{Mounts}
-use Rattle.library.proofs.Lists.{take_all}
 use Rattle.library.proofs.Sorted.{few_rows, running_row, running_now, section_more, section_grows, section_part}
 use Rattle.library.proofs.Inferring.{Known, no_type, unlisted_type, no_definition}
 use Rattle.library.proofs.Tables.{typed_more, scoped_more, known_all}
 use Rattle.library.proofs.Trials.{text_first, parts_first, unlisted_first}
 
--- what holds of each item below a place, and of the item there, holds of each below the next place
-pub below_next : {X : Type 0} (P : X → Type 0) (xs : List X) (k : ℕ) (d : X) → ((i : ℕ) (x : X) → i < k → slice_get xs i ≡ Some x → P x) → k < length xs → P (get_or xs k d) → (i : ℕ) (x : X) → i < k + 1 → slice_get xs i ≡ Some x → P x
-below_next P xs k d below inside here i x lt e = ⊎_elim (λ p. below i x p e) newest (order i k)
-  where
-    newest : k ≤ i → P x
-    newest le =
-        let same : i ≡ k = omega arith in
-        subst P (some_same (sym (slice_get-get_or xs k d inside) ∙ ap (slice_get xs) (sym same) ∙ e)) here
-
-faultless_push : (rs : List Row) (row : Row) → Faultless rs → NoneOf (RowFault true rs row) → Faultless (rs ++ (row ∷ []))
-faultless_push rs row h here i r lt is = ⊎_elim older newest (order i (length rs))
-  where
-    older : i < length rs → NoneOf (RowFault true (take i (rs ++ (row ∷ []))) r)
-    older p = subst (λ before. NoneOf (RowFault true before r)) (sym (take-append-le i rs (row ∷ []) (omega arith))) (h i r p (sym (get_or_append_left rs (row ∷ []) r i p) ∙ is))
-
-    newest : length rs ≤ i → NoneOf (RowFault true (take i (rs ++ (row ∷ []))) r)
-    newest p =
-        let last : length rs ≡ i = omega (arith, length-append rs (row ∷ [])) in
-        let same : row ≡ r = sym (get_or_push rs row r i last) ∙ is in
-        let before : rs ≡ take i (rs ++ (row ∷ [])) = sym (take-append-le i rs (row ∷ []) (omega arith) ∙ ap (λ k. take k rs) (sym last) ∙ take_all rs) in
-        subst (λ b. NoneOf (RowFault true b r)) before (subst (λ x. NoneOf (RowFault true rs x)) same here)
-
--- a number outside its range is the least fault
-pub number_least : (before : List Row) (row : Row) → (NumbersInRange row → ⊥) → Least (RowFault true before row) NumberFault
-number_least before row out = record { here = out; none_smaller = smaller }
-  where
-    smaller : (other : TextFault) → text_number other < 11 → RowFault true before row other → ⊥
-    smaller FormFault lt f = f
-    smaller NumberFault lt f = absurd (omega arith)
-    smaller Order lt f = absurd (omega arith)
-    smaller Reference lt f = absurd (omega arith)
-    smaller Limit lt f = absurd (omega arith)
-    smaller Repeat lt f = absurd (omega arith)
-
 -- the row that a read past the end would give
 abbrev pub blank : Row
 blank = TypeRow 0 UnitType
-
-pub admitted_next : (rows : List Row) (k : ℕ) (c : Counts) (table : List ℕ) → k < length rows → Faultless (take k rows) → NoneOf (RowFault true (take k rows) (get_or rows k blank)) × Tallied (take k rows ++ (get_or rows k blank ∷ [])) c table → Faultless (take (k + 1) rows) × Tallied (take (k + 1) rows) c table
-admitted_next rows k c table lt h given =
-    let more = take_more rows k blank lt in
-    (subst Faultless (sym more) (faultless_push (take k rows) (get_or rows k blank) h given.0), subst (λ rs. Tallied rs c table) (sym more) given.1)
 
 pub place_few : (rows : List Row) (k : ℕ) → k ≤ length rows → Faultless (take k rows) → k < 65536
 place_few rows k le h = omega (arith, few_rows (take k rows) h, length-take-le k rows le)
@@ -166,7 +120,3 @@ module _ (rows : List Row) (fine : Faultless rows) (i : ℕ) (known : List TermF
 
     pub found_refused : (fault : TypingFault) → type_of rows (type_numbers known) form ≡ Err fault → (told : MountFault) → told ≡ Refused (record { place = i + 1; fault = Typing fault }) → Mounts rows (Err told)
     found_refused fault e told q = typing_refused rows fine i t form at (type_numbers known) sofar.typed numbers_long fault e told q
-
--- with all rows
-pub found_all : (rows : List Row) (i : ℕ) (known : List TermFacts) → length rows ≤ i → FoundSoFar rows i known → TypedBy rows (type_numbers known) × ScopedBy rows (free_sets known) × (length known ≡ length (section_rows Terms rows))
-found_all rows i known all sofar = (sofar.typed, sofar.scoped, sofar.long ∙ ap (λ rs. length (section_rows Terms rs)) (Rattle.std.proofs.lemmas.List.take_all i rows all))

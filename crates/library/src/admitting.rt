@@ -1,5 +1,5 @@
 //! Rows that are tried one by one for the faults of a text.
-ghost use Rattle.std.specs.Prelude.{ℕ, ◌+◌, true, [], ◌∷◌, ◌++◌, Err, MatchResult};
+ghost use Rattle.std.specs.Prelude.{true, [], ◌∷◌, ◌++◌, Err, MatchResult};
 ghost use Rattle.library.specs.Mounting.{Mounts};
 ghost use Rattle.rows.specs.Faults.{Faultless, Least, NoneOf, RowFault};
 ghost use Rattle.rows.specs.Tallies.{Tallied};

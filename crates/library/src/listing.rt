@@ -1,5 +1,5 @@
 //! Rows that are sorted into sections, looked up by section and number.
-ghost use Rattle.std.specs.Prelude.{◌≡◌, ℕ, ◌+◌, ◌<◌, ◌≤◌, Some, None, MatchBool, ◌≢◌};
+ghost use Rattle.std.specs.Prelude.{◌≡◌};
 ghost use Rattle.library.specs.Inference.{Sectioned, number_of_form, start};
 ghost use Rattle.library.specs.Listing.{global_term_at, global_type_at, method_at, method_type, method_type_at, section_rows, term_at, type_form_at, variable_type_at};
 ghost use Rattle.std.specs.List.{slice_get};
