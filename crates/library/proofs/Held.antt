@@ -2,7 +2,7 @@
 use Rattle.std.proofs.Common.{◌≡◌, ℕ, ◌<◌, ◌≤◌, Bool, true, false, cond, ◌&&◌, ltb, List, length, get_or, Some, None, Option, sym, refl, ap, ◌∙◌, subst, inl, inr, ⊎_elim, arith, ltb-true, lt-ltb, MatchOption}
 use Rattle.std.specs.List.{slice_get}
 use Rattle.std.proofs.lemmas.Option.{slice_get-get_or, slice_get_past}
-use Rattle.std.proofs.lemmas.Bool.{and_parts, and_from}
+use Rattle.std.proofs.lemmas.Bool.{and_parts, and_from, le-ltb}
 use Rattle.faults.specs.declared.TypingFault.TheVariants.{Definition}
 use Rattle.rows.specs.declared.forms.TypeForm.TheVariants.{Fun as FunType}
 use Rattle.rows.specs.declared.forms.TermForm.TheVariants.{Lam}
@@ -33,7 +33,7 @@ use Rattle.library.specs.Inference.{LeavesBy, TypedBy, is_int}
 use Rattle.library.specs.Judging.{is_function, is_lam, is_num}
 use Rattle.library.specs.Listing.{global_term_at, global_term_of, method_at, term_of}
 use Rattle.library.specs.Mounting.{WellTyped}
-use Rattle.library.proofs.Sorted.{count_length, global_type_row, method_row, origin, term_inside, type_named}
+use Rattle.library.proofs.Sorted.{count_length, equal_stable, global_type_row, method_row, origin, term_inside, type_named}
 use Rattle.library.proofs.Numbered.{fun_form, listed_as, tree_once}
 use Rattle.library.proofs.Unique.{one_type}
 use Rattle.library.proofs.Inferring.{Known, int_said, int_told}
@@ -56,14 +56,10 @@ leaves_told rows c table counts told n = ⊎_elim inside past (order n c.types)
         let few : n < length (types rows) = omega (arith, lt, counts Types, types_count rows) in
         ap (λ b. cond b (Some (get_or table n 0)) None) (lt-ltb n c.types lt) ∙ ap Some (told n (omega (arith, lt, counts Types))) ∙ sym (ap (option_map leaves) (slice_get-get_or (types rows) n unit few))
 
-    not_below : (b : Bool) → c.types ≤ n → ltb n c.types ≡ b → b ≡ false
-    not_below true le e = let lt = ltb-true n c.types e in absurd (omega arith)
-    not_below false le e = refl
-
     past : c.types ≤ n → leaves_at c table n ≡ option_map leaves (slice_get (types rows) n)
     past le =
         let far : length (types rows) ≤ n = omega (arith, le, counts Types, types_count rows) in
-        ap (λ b. cond b (Some (get_or table n 0)) None) (not_below (ltb n c.types) le refl) ∙ sym (ap (option_map leaves) (slice_get_past (types rows) n far))
+        ap (λ b. cond b (Some (get_or table n 0)) None) (le-ltb n c.types le) ∙ sym (ap (option_map leaves) (slice_get_past (types rows) n far))
 
 module _ (rows : List Row) (fine : WellTyped rows) (known : List ℕ) (typed : TypedBy rows known) (long : length known ≡ length (section_rows Terms rows)) where
   faultless : Faultless rows
@@ -104,9 +100,6 @@ module _ (rows : List Row) (fine : WellTyped rows) (known : List ℕ) (typed : T
       step true e = lam_said (term_at rows t) e
       step false e = absurd (h (λ k. let z : true ≡ false = sym (ap is_lam k.2) ∙ e in cc))
 
-  same_kept : (a b : ℕ) → ((a ≡ b → ⊥) → ⊥) → a ≡ b
-  same_kept a b h = ⊎_elim (λ lt. absurd (h (λ e. omega arith))) (λ le. ⊎_elim (λ lt. absurd (h (λ e. omega arith))) (λ ge. omega arith) (order b a)) (order a b)
-
   closed_kept : (n t : ℕ) → ((ClosedFunction rows n t → ⊥) → ⊥) → ClosedFunction rows n t
   closed_kept n t h =
       let f = function_kept n (λ k. h (λ c. k c.typed_as)) in
@@ -116,7 +109,7 @@ module _ (rows : List Row) (fine : WellTyped rows) (known : List ℕ) (typed : T
       let k = nth_there known t (omega (arith, inside, long)) in
       let p = each t k.0 k.1 in
       let same : k.0 ≡ n =
-      same_kept k.0 n (λ ne. h (λ c. ne (tree_once rows faultless p.0 k.0 n p.1 (c.typed_as.named ∙ ap Some (one_type rows t (fun c.typed_as.argument c.typed_as.result) p.0 c.typed p.2))))) in
+      equal_stable k.0 n (λ ne. h (λ c. ne (tree_once rows faultless p.0 k.0 n p.1 (c.typed_as.named ∙ ap Some (one_type rows t (fun c.typed_as.argument c.typed_as.result) p.0 c.typed p.2))))) in
       let alike : p.0 ≡ A = some_same (sym p.1 ∙ ap (slice_get (types rows)) same ∙ f.named) in
       record { typed_as = f; variable = l.0; body = l.1; lam = l.2; typed = subst (HasType rows t) alike p.2; closed = λ x free. h (λ c. c.closed x free) }
 

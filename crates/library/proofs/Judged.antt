@@ -1,7 +1,7 @@
 -- The rules for methods and globals are kept where they are found to be kept. Assumes nothing.
 use Rattle.std.proofs.Common.{◌≡◌, ℕ, ◌^◌, ◌<◌, Bool, true, false, ◌&&◌, ◌||◌, ◌⊎◌, List, length, get_or, ℤ, Some, None, Option, sym, refl, ap, ◌∙◌, subst, inl, inr, ⊎_elim, arith, eq-eqb}
 use Rattle.std.specs.List.{slice_get}
-use Rattle.std.proofs.lemmas.Bool.{and_parts, and_from}
+use Rattle.std.proofs.lemmas.Bool.{and_parts, and_from, or_cases, or_left, or_right}
 use Rattle.faults.specs.declared.TypingFault.TheVariants.{Definition}
 use Rattle.rows.specs.declared.forms.TypeForm.{TypeForm}
 use Rattle.rows.specs.declared.forms.TypeForm.TheVariants.{Unit as UnitType, Int as IntType, Pair as PairType, Fun as FunType}
@@ -71,17 +71,6 @@ num_said (Some (If c a b)) e = cc
 num_said (Some (Let x a b)) e = cc
 num_said (Some (Assert a)) e = cc
 
-either_said : (a b : Bool) → (a || b) ≡ true → (a ≡ true) ⊎ (b ≡ true)
-either_said true b e = inl refl
-either_said false b e = inr e
-
-either_left : (a b : Bool) → a ≡ true → (a || b) ≡ true
-either_left a b e = ap (λ c. c || b) e
-
-either_right : (a b : Bool) → b ≡ true → (a || b) ≡ true
-either_right true b e = refl
-either_right false b e = e
-
 module _ (rows : List Row) (fine : Faultless rows) (known sets : List ℕ) (each : Known rows fine known) (scoped : ScopedBy rows sets) (all_Known : length known ≡ length (section_rows Terms rows)) (all_sets : length sets ≡ length (section_rows Terms rows)) (small : (t s : ℕ) → slice_get sets t ≡ Some s → s < 2 ^ 64) where
   function_kept : (n : ℕ) → is_function (type_form_at rows n) ≡ true → FunctionType rows n
   function_kept n e =
@@ -143,11 +132,11 @@ module _ (rows : List Row) (fine : Faultless rows) (known sets : List ℕ) (each
       let p = and_parts (is_int rows (Some n)) (is_num (term_at rows t)) h in
       let i = int_said rows fine (Some n) p.0 in
       let w = num_said (term_at rows t) p.1 in
-      inl (record { int_type = ap (slice_get (types rows)) (some_same i.1) ∙ i.2; word = w.0; num = w.1 })) (λ h. inr (closed_kept n t h)) (either_said (is_int rows (Some n) && is_num (term_at rows t)) (closed_function rows known sets n t) e)
+      inl (record { int_type = ap (slice_get (types rows)) (some_same i.1) ∙ i.2; word = w.0; num = w.1 })) (λ h. inr (closed_kept n t h)) (or_cases (is_int rows (Some n) && is_num (term_at rows t)) (closed_function rows known sets n t) e)
 
   global_told : (n t : ℕ) → GlobalRule rows n t → global_stands rows known sets n t ≡ true
   global_told n t =
-      ⊎_elim (λ h. either_left _ _ (and_from _ _ (int_told rows fine n h.int_type) (ap is_num h.num))) (λ h. either_right _ _ (closed_function_told n t h))
+      ⊎_elim (λ h. or_left _ _ (and_from _ _ (int_told rows fine n h.int_type) (ap is_num h.num))) (λ h. or_right _ _ (closed_function_told n t h))
 
   -- a row that is found to keep its rule has no fault of definition, and one that isn't has
   pub stands_right : (row : Row) → stands rows known sets row ≡ true → HasTypingFault rows row Definition → ⊥

@@ -77,7 +77,7 @@ term_row (Some (TermRow n f)) v e = (n, cc)
 less_stable : (a b : ℕ) → ((a < b → ⊥) → ⊥) → a < b
 less_stable a b h = ⊎_elim (λ lt. lt) (λ le. absurd (h (λ lt. omega arith))) (order a b)
 
-equal_stable : (a b : ℕ) → ((a ≡ b → ⊥) → ⊥) → a ≡ b
+pub equal_stable : (a b : ℕ) → ((a ≡ b → ⊥) → ⊥) → a ≡ b
 equal_stable a b h =
     ⊎_elim (λ lt. absurd (h (λ e. omega arith)))
     (λ le. ⊎_elim (λ lt. absurd (h (λ e. omega arith))) (λ ge. omega arith) (order b a)) (order a b)
