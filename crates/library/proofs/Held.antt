@@ -1,5 +1,5 @@
 -- What the invariant of a library says of its rows. Assumes nothing.
-use Rattle.std.proofs.Common.{◌≡◌, ℕ, ◌<◌, ◌≤◌, Bool, true, false, cond, ◌&&◌, ltb, List, length, get_or, Some, None, Option, sym, refl, ap, ◌∙◌, subst, inl, inr, ⊎_elim, arith, ltb-true, lt-ltb, MatchOption}
+use Rattle.std.proofs.Common.{◌≡◌, ℕ, ◌<◌, ◌≤◌, Bool, true, false, cond, ◌&&◌, List, length, get_or, Some, None, Option, sym, refl, ap, ◌∙◌, subst, inl, inr, ⊎_elim, arith, lt-ltb, MatchOption}
 use Rattle.std.specs.List.{slice_get}
 use Rattle.std.proofs.lemmas.Option.{slice_get-get_or, slice_get_past}
 use Rattle.std.proofs.lemmas.Bool.{and_parts, and_from, le-ltb}
@@ -14,7 +14,7 @@ use Rattle.library.specs.Listing.{section_rows, type_form_at, term_at, global_ty
 use Rattle.library.specs.Typing.{TermIs, HasType}
 use Rattle.library.proofs.Lists.{none_some, some_same, nth_there}
 use Rattle.std.specs.Option.{option_map}
-use Rattle.std.proofs.str.Laws.{order}
+use Rattle.std.proofs.lemmas.Bool.{cases_lt}
 use Rattle.faults.specs.declared.LibraryFault.TheVariants.{Text, Typing}
 use Rattle.rows.specs.declared.forms.MethodForm.{MethodForm}
 use Rattle.rows.specs.declared.forms.MethodForm.TheVariants.{Abstract, Public, Private}
@@ -49,7 +49,7 @@ as_many rows known n e f = length-map known _ ∙ sym e ∙ f ∙ count_length T
 
 -- the leaves of a type, read from the table
 pub leaves_told : (rows : List Row) (c : Counts) (table : List ℕ) → CountsOf rows c → LeavesBy rows table → (n : ℕ) → leaves_at c table n ≡ option_map leaves (slice_get (types rows) n)
-leaves_told rows c table counts told n = ⊎_elim inside past (order n c.types)
+leaves_told rows c table counts told n = ⊎_elim inside past (cases_lt n c.types)
   where
     inside : n < c.types → leaves_at c table n ≡ option_map leaves (slice_get (types rows) n)
     inside lt =
@@ -72,7 +72,7 @@ module _ (rows : List Row) (fine : WellTyped rows) (known : List ℕ) (typed : T
   type_told t n e = each t n e
 
   pub no_term_told : (t : ℕ) → slice_get known t ≡ None → term_at rows t ≡ None
-  no_term_told t e = ⊎_elim (λ lt. let k = nth_there known t lt in absurd (none_some (sym e ∙ k.1))) (λ le. ap term_of (slice_get_past (section_rows Terms rows) t (omega (arith, long)))) (order t (length known))
+  no_term_told t e = ⊎_elim (λ lt. let k = nth_there known t lt in absurd (none_some (sym e ∙ k.1))) (λ le. ap term_of (slice_get_past (section_rows Terms rows) t (omega (arith, long)))) (cases_lt t (length known))
 
   pub type_cases : (t : ℕ) (o : Option ℕ) → o ≡ slice_get known t → MatchOption o (term_at rows t ≡ None) (λ n. (A : Tree) × (slice_get (types rows) n ≡ Some A) × HasType rows t A)
   type_cases t None e = no_term_told t (sym e)

@@ -8,7 +8,7 @@ use Rattle.std.proofs.lemmas.Grind.{common_steps}
 use Rattle.std.proofs.Math.Seq.{drop-cons, take-length}
 use Rattle.std.proofs.lemmas.List.{take-append-drop}
 use Rattle.std.proofs.lemmas.Option.{get_or_from_slice_get, gets, slice_get_within}
-use Rattle.std.proofs.lemmas.Bool.{and_parts, and_from, not-false, not-true}
+use Rattle.std.proofs.lemmas.Bool.{and_parts, and_from, false_from_ne_true, not-false, not-true}
 use Rattle.rows.specs.declared.forms.TypeForm.{TypeForm}
 use Rattle.rows.specs.declared.forms.TypeForm.TheVariants.{Unit as UnitType, Int as IntType, Pair as PairType, Fun as FunType}
 use Rattle.rows.specs.declared.forms.Row.{Row}
@@ -54,9 +54,6 @@ same_refl IntType = refl
 same_refl (PairType a b) = and_from _ _ (eq-eqb a a refl) (eq-eqb b b refl)
 same_refl (FunType a b) = and_from _ _ (eq-eqb a a refl) (eq-eqb b b refl)
 
-false_true : {X : Type 0} → false ≡ true → X
-false_true e = cc
-
 pub same_true : (f g : TypeForm) → same_form f g ≡ true → f ≡ g
 same_true UnitType UnitType e = refl
 same_true UnitType IntType e = cc
@@ -82,23 +79,19 @@ is_form_true form (Some g) e = ap Some (sym (same_true form g e))
 pub is_form_told : (form : TypeForm) (o : Option TypeForm) → o ≡ Some form → is_form form o ≡ true
 is_form_told form o e = ap (is_form form) e ∙ same_refl form
 
-by_cases : (b : Bool) → (b ≡ true → ⊥) → b ≡ false
-by_cases true h = absurd (h refl)
-by_cases false h = refl
-
 -- the first type of a form
 pub first_found : (form : TypeForm) (rs : List Row) (n : ℕ) → ((k : ℕ) → k < n → type_form_of (slice_get rs k) ≡ Some form → ⊥) → type_form_of (slice_get rs n) ≡ Some form → first_of_form form rs ≡ Some n
 first_found form [] n below here = cc
 first_found form (r ∷ rs) zero below here = ap (λ b. cond b (Some 0) (option_map suc (first_of_form form rs))) (is_form_told form _ here)
 first_found form (r ∷ rs) (suc n) below here =
-    ap (λ b. cond b (Some 0) (option_map suc (first_of_form form rs))) (by_cases _ (λ e. below 0 (omega arith) (is_form_true form _ e)))
+    ap (λ b. cond b (Some 0) (option_map suc (first_of_form form rs))) (false_from_ne_true _ (λ e. below 0 (omega arith) (is_form_true form _ e)))
     ∙ ap (option_map suc) (first_found form rs n (λ k lt. below (suc k) (omega arith)) here)
 
 pub none_found : (form : TypeForm) (rs : List Row) (n : ℕ) → length rs ≤ n → ((k : ℕ) → k < n → type_form_of (slice_get rs k) ≡ Some form → ⊥) → first_of_form form rs ≡ None
 none_found form [] n all below = refl
 none_found form (r ∷ rs) zero all below = absurd (omega arith)
 none_found form (r ∷ rs) (suc n) all below =
-    ap (λ b. cond b (Some 0) (option_map suc (first_of_form form rs))) (by_cases _ (λ e. below 0 (omega arith) (is_form_true form _ e)))
+    ap (λ b. cond b (Some 0) (option_map suc (first_of_form form rs))) (false_from_ne_true _ (λ e. below 0 (omega arith) (is_form_true form _ e)))
     ∙ ap (option_map suc) (none_found form rs n (omega arith) (λ k lt. below (suc k) (omega arith)))
 
 -- the first of the numbers that are tried, where all are
@@ -129,7 +122,7 @@ not_found form (r ∷ rs) n e here = step (λ k. not_found form rs k) (is_form f
 
     step : ((k : ℕ) → first_of_form form rs ≡ None → type_form_of (slice_get rs k) ≡ Some form → ⊥) → (b : Bool) → is_form form (type_form_of (Some r)) ≡ b → (k : ℕ) → cond b (Some 0) (option_map suc (first_of_form form rs)) ≡ None → type_form_of (slice_get (r ∷ rs) k) ≡ Some form → ⊥
     step again true q k h there = cc
-    step again false q zero h there = false_true (sym q ∙ is_form_told form _ there)
+    step again false q zero h there = let told = is_form_told form _ there in cc
     step again false q (suc k) h there = again k (later (first_of_form form rs) h) there
 
 pub take_take : {X : Type 0} (j i : ℕ) (xs : List X) → j ≤ i → take j (take i xs) ≡ take j xs

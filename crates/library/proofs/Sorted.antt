@@ -2,7 +2,7 @@
 use Rattle.std.proofs.Common.{◌≡◌, ℕ, zero, suc, ◌+◌, ◌<◌, ◌≤◌, Bool, true, false, cond, eqb, List, [], ◌∷◌, ◌++◌, length, get_or, take, drop, Some, None, Option, unwrap_or, sym, refl, ap, ◌∙◌, subst, inl, ⊎_elim, arith, lit<, length-append, eq-eqb, true-eqb}
 use Rattle.std.specs.List.{slice_get, AllByRecursion}
 use Rattle.std.proofs.lemmas.Option.{slice_get-get_or, unwrap_or-slice_get}
-use Rattle.std.proofs.str.Laws.{order}
+use Rattle.std.proofs.lemmas.Bool.{cases_eq, cases_lt}
 use Rattle.faults.specs.declared.TextFault.TheVariants.{Order, Reference, Limit, Repeat}
 use Rattle.rows.specs.declared.forms.TypeForm.{TypeForm}
 use Rattle.rows.specs.declared.forms.TypeForm.TheVariants.{Unit as UnitType, Int as IntType, Pair as PairType, Fun as FunType}
@@ -75,12 +75,10 @@ term_row (Some (TermRow n f)) v e = (n, cc)
 
 -- what can't fail to hold, holds
 less_stable : (a b : ℕ) → ((a < b → ⊥) → ⊥) → a < b
-less_stable a b h = ⊎_elim (λ lt. lt) (λ le. absurd (h (λ lt. omega arith))) (order a b)
+less_stable a b h = ⊎_elim (λ lt. lt) (λ le. absurd (h (λ lt. omega arith))) (cases_lt a b)
 
 pub equal_stable : (a b : ℕ) → ((a ≡ b → ⊥) → ⊥) → a ≡ b
-equal_stable a b h =
-    ⊎_elim (λ lt. absurd (h (λ e. omega arith)))
-    (λ le. ⊎_elim (λ lt. absurd (h (λ e. omega arith))) (λ ge. omega arith) (order b a)) (order a b)
+equal_stable a b h = ⊎_elim (λ e. e) (λ ne. absurd (h ne)) (cases_eq a b)
 
 all_stable : {X : Type 0} (P : X → Type 0) → ((x : X) → ((P x → ⊥) → ⊥) → P x) → (xs : List X) → ((AllByRecursion P xs → ⊥) → ⊥) → AllByRecursion P xs
 all_stable P stable [] h = tt
@@ -310,14 +308,14 @@ module _ (rows : List Row) (fine : Faultless rows) where
       let s = type_form_row (slice_get (section_rows Types rows) n) f g in
       let o = origin Types rows m (TypeRow r.0 f) r.1 in
       let p = origin Types rows n (TypeRow s.0 f) s.1 in
-      let sooner : o.index < p.index = ⊎_elim (λ h. h) (λ h. absurd (omega (arith, section_grows Types rows p.index o.index h, o.number, p.number))) (order o.index p.index) in
+      let sooner : o.index < p.index = ⊎_elim (λ h. h) (λ h. absurd (omega (arith, section_grows Types rows p.index o.index h, o.number, p.number))) (cases_lt o.index p.index) in
       let inside : slice_get (take p.index rows) o.index ≡ Some (TypeRow r.0 f) = nth_take rows o.index p.index sooner ∙ o.at in
       let short = nth_inside (take p.index rows) o.index (TypeRow r.0 f) inside in
       good_at p.index (TypeRow s.0 f) p.at Repeat (o.index, r.0, short, some_same (sym (slice_get-get_or (take p.index rows) o.index (TypeRow r.0 f) short) ∙ inside))
 
   pub form_once : (m n : ℕ) (f : TypeForm) → type_form_at rows m ≡ Some f → type_form_at rows n ≡ Some f → m ≡ n
   form_once m n f e g =
-      ⊎_elim (λ lt. absurd (once m n f lt e g)) (λ le. ⊎_elim (λ lt. absurd (once n m f lt g e)) (λ ge. omega arith) (order n m)) (order m n)
+      ⊎_elim (λ lt. absurd (once m n f lt e g)) (λ le. ⊎_elim (λ lt. absurd (once n m f lt g e)) (λ ge. omega arith) (cases_lt n m)) (cases_lt m n)
 
   declared_below : (s : Section) (n k : ℕ) (row : Row) → slice_get (section_rows s rows) n ≡ Some row → ((before : List Row) → RefersBack before row → k < count Types before) → k < length (types rows)
   declared_below s n k row e named =
@@ -384,7 +382,7 @@ module _ (rows : List Row) (fine : Faultless rows) where
 
   -- a section keeps its limit
   pub few : (s : Section) → length (section_rows s rows) ≤ limit s
-  few s = ⊎_elim passed (λ le. le) (order (limit s) (length (section_rows s rows)))
+  few s = ⊎_elim passed (λ le. le) (cases_lt (limit s) (length (section_rows s rows)))
     where
       passed : limit s < length (section_rows s rows) → length (section_rows s rows) ≤ limit s
       passed lt =
@@ -415,7 +413,7 @@ module _ (rows : List Row) (fine : Faultless rows) where
 
   -- the rows of earlier sections all stand before a row
   earlier_all : (i : ℕ) (row : Row) → slice_get rows i ≡ Some row → (u : Section) → place u < place (section row) → length (section_rows u (take i rows)) ≡ length (section_rows u rows)
-  earlier_all i row e u lt = ⊎_elim more (λ le. let p = section_part u rows i in omega arith) (order (length (section_rows u (take i rows))) (length (section_rows u rows)))
+  earlier_all i row e u lt = ⊎_elim more (λ le. let p = section_part u rows i in omega arith) (cases_lt (length (section_rows u (take i rows))) (length (section_rows u rows)))
     where
       more : length (section_rows u (take i rows)) < length (section_rows u rows) → length (section_rows u (take i rows)) ≡ length (section_rows u rows)
       more missing =
@@ -433,7 +431,7 @@ module _ (rows : List Row) (fine : Faultless rows) where
           (λ ge.
           let here : j ≡ i = omega arith in
           let same : r.0 ≡ row = some_same (sym o.at ∙ ap (slice_get rows) here ∙ e) in
-          omega (arith, ap (λ x. place (section x)) same, o.in_section)) (order i j)) (order j i))
+          omega (arith, ap (λ x. place (section x)) same, o.in_section)) (cases_lt i j)) (cases_lt j i))
 
   inside_le : (i : ℕ) (row : Row) → slice_get rows i ≡ Some row → i ≤ length rows
   inside_le i row e = let lt = nth_inside rows i row e in omega arith

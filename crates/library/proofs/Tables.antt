@@ -11,7 +11,7 @@ use Rattle.library.specs.Listing.{section_rows, term_at}
 use Rattle.library.specs.Typing.{HasType}
 use Rattle.library.proofs.Lists.{some_same, nth_inside}
 use Rattle.std.proofs.lemmas.List.{length-take, take-append-le}
-use Rattle.std.proofs.str.Laws.{order}
+use Rattle.std.proofs.lemmas.Bool.{cases_lt}
 use Rattle.library.specs.Inference.{TypedBy, gives, type_of, types_term}
 use Rattle.library.specs.Scopes.{ScopedBy, free_in}
 use Rattle.library.proofs.Lists.{nth_left, nth_end, nth_take, take_all}
@@ -24,7 +24,7 @@ module _ (rows : List Row) (Right : List ℕ → TermForm → ℕ → Type 0) wh
   Each table = (t n : ℕ) (form : TermForm) → slice_get table t ≡ Some n → term_at rows t ≡ Some form → Right (take t table) form n
 
   each_more : (table : List ℕ) (form : TermForm) (n : ℕ) → Each table → term_at rows (length table) ≡ Some form → Right table form n → Each (table ++ (n ∷ []))
-  each_more table form n each is right t m f e h = ⊎_elim older newest (order t (length table))
+  each_more table form n each is right t m f e h = ⊎_elim older newest (cases_lt t (length table))
     where
       older : t < length table → Right (take t (table ++ (n ∷ []))) f m
       older lt = subst (λ ts. Right ts f m) (sym (take-append-le t table (n ∷ []) (omega arith))) (each t m f (sym (nth_left table (n ∷ []) t lt) ∙ e) h)

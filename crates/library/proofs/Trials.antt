@@ -12,7 +12,7 @@ use Rattle.rows.specs.Faults.{Faultless}
 use Rattle.library.specs.Listing.{section_rows}
 use Rattle.library.specs.Typing.{HasType}
 use Rattle.library.proofs.Lists.{some_same, nth_inside, nth_there}
-use Rattle.std.proofs.str.Laws.{order}
+use Rattle.std.proofs.lemmas.Bool.{cases_lt}
 use Rattle.faults.specs.declared.TextFault.{TextFault}
 use Rattle.faults.specs.declared.TextFault.TheVariants.{Form as FormFault, Number as NumberFault, Order, Reference, Limit, Repeat}
 use Rattle.faults.specs.declared.LibraryFault.{LibraryFault}
@@ -154,7 +154,7 @@ by_own_number (Typing Unlisted) = refl
 by_own_number (Typing Definition) = refl
 
 compared : (a b : ℕ) → ((a < b) ⊎ (b < a)) ⊎ (a ≡ b)
-compared a b = ⊎_elim (λ lt. inl (inl lt)) (λ le. ⊎_elim (λ lt. inl (inr lt)) (λ ge. inr (omega arith)) (order b a)) (order a b)
+compared a b = ⊎_elim (λ lt. inl (inl lt)) (λ le. ⊎_elim (λ lt. inl (inr lt)) (λ ge. inr (omega arith)) (cases_lt b a)) (cases_lt a b)
 
 pub one_first : (rows : List Row) (i j : ℕ) (f g : LibraryFault) → FirstFault rows i f → FirstFault rows j g → (i ≡ j) × (f ≡ g)
 one_first rows i j f g a b =
