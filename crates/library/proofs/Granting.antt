@@ -1,4 +1,5 @@
 -- What follows where all terms are typed. Assumes nothing.
+use Rattle.std.proofs.lemmas.Option.{same_Some}
 use Rattle.std.proofs.Common.{◌≡◌, ℕ, zero, suc, ◌+◌, ◌^◌, ◌<◌, [], ◌∷◌, true, false, List, length, not, Some, None, Err, sym, refl, ap, ◌∙◌, subst, arith}
 use Rattle.std.specs.List.{position, slice_get}
 use Rattle.faults.specs.declared.TypingFault.TheVariants.{Definition}
@@ -6,7 +7,7 @@ use Rattle.rows.specs.declared.forms.Row.{Row}
 use Rattle.rows.specs.declared.forms.Section.TheVariants.{Terms}
 use Rattle.rows.specs.Faults.{Faultless}
 use Rattle.library.specs.Listing.{section_rows, global_type_at}
-use Rattle.library.proofs.Lists.{all_pass, first_fails, some_same}
+use Rattle.library.proofs.Lists.{all_pass, first_fails}
 use Rattle.faults.specs.declared.LibraryFault.TheVariants.{Typing}
 use Rattle.rows.specs.declared.forms.MethodForm.{MethodForm}
 use Rattle.rows.specs.declared.forms.Row.TheVariants.{Method as MethodRow, Global as GlobalRow}
@@ -51,7 +52,7 @@ module _ (rows : List Row) (fine : Faultless rows) (known sets : List ℕ) (type
     global_sound : (g n t : ℕ) → global_type_at rows g ≡ Some n → global_term_at rows g ≡ Some t → GlobalRule rows n t
     global_sound g n t e h =
         let r = global_type_row (slice_get (section_rows Globals rows) g) n e in
-        let same : r.1 ≡ t = some_same (sym (ap global_term_of r.2) ∙ h) in
+        let same : r.1 ≡ t = same_Some _ _ (sym (ap global_term_of r.2) ∙ h) in
         let o = origin Globals rows g (GlobalRow r.0 n r.1) r.2 in
         subst (GlobalRule rows n) same (global_kept rows fine known sets each scoped long all small n r.1 (kept o.index (GlobalRow r.0 n r.1) o.at))
 
@@ -69,7 +70,7 @@ pub record Found (rows : List Row) (known sets : List ℕ) : Type 0 where
 -- each set of variables fits a word
 words : (known : List TermFacts) → Words (free_sets known)
 words [] t set e = cc
-words (facts ∷ known) zero set e = subst (λ n. n < 2 ^ 64) (some_same e) facts.free.word
+words (facts ∷ known) zero set e = subst (λ n. n < 2 ^ 64) (same_Some _ _ e) facts.free.word
 words (facts ∷ known) (suc t) set e = words known t set e
 
 pub found_through : (rows : List Row) (known seen : List TermFacts) → seen ≡ known → TypedBy rows (type_numbers known) × ScopedBy rows (free_sets known) × (length known ≡ length (section_rows Terms rows)) → Found rows (type_numbers seen) (free_sets seen)

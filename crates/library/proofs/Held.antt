@@ -1,4 +1,5 @@
 -- What the invariant of a library says of its rows. Assumes nothing.
+use Rattle.std.proofs.lemmas.Option.{none-some, same_Some}
 use Rattle.std.proofs.Common.{◌≡◌, ℕ, ◌<◌, ◌≤◌, Bool, true, false, cond, ◌&&◌, List, length, get_or, Some, None, Option, sym, refl, ap, ◌∙◌, subst, inl, inr, ⊎_elim, arith, lt-ltb, MatchOption}
 use Rattle.std.specs.List.{slice_get}
 use Rattle.std.proofs.lemmas.Option.{slice_get-get_or, slice_get_past}
@@ -12,7 +13,7 @@ use Rattle.rows.specs.Types.{Tree, unit, fun, types}
 use Rattle.rows.specs.Faults.{Faultless}
 use Rattle.library.specs.Listing.{section_rows, type_form_at, term_at, global_type_at}
 use Rattle.library.specs.Typing.{TermIs, HasType}
-use Rattle.library.proofs.Lists.{none_some, some_same, nth_there}
+use Rattle.library.proofs.Lists.{nth_there}
 use Rattle.std.specs.Option.{option_map}
 use Rattle.std.proofs.lemmas.Bool.{cases_lt}
 use Rattle.faults.specs.declared.LibraryFault.TheVariants.{Text, Typing}
@@ -72,7 +73,7 @@ module _ (rows : List Row) (fine : WellTyped rows) (known : List ℕ) (typed : T
   type_told t n e = each t n e
 
   pub no_term_told : (t : ℕ) → slice_get known t ≡ None → term_at rows t ≡ None
-  no_term_told t e = ⊎_elim (λ lt. let k = nth_there known t lt in absurd (none_some (sym e ∙ k.1))) (λ le. ap term_of (slice_get_past (section_rows Terms rows) t (omega (arith, long)))) (cases_lt t (length known))
+  no_term_told t e = ⊎_elim (λ lt. let k = nth_there known t lt in absurd (none-some _ (sym e ∙ k.1))) (λ le. ap term_of (slice_get_past (section_rows Terms rows) t (omega (arith, long)))) (cases_lt t (length known))
 
   pub type_cases : (t : ℕ) (o : Option ℕ) → o ≡ slice_get known t → MatchOption o (term_at rows t ≡ None) (λ n. (A : Tree) × (slice_get (types rows) n ≡ Some A) × HasType rows t A)
   type_cases t None e = no_term_told t (sym e)
@@ -110,7 +111,7 @@ module _ (rows : List Row) (fine : WellTyped rows) (known : List ℕ) (typed : T
       let p = each t k.0 k.1 in
       let same : k.0 ≡ n =
       equal_stable k.0 n (λ ne. h (λ c. ne (tree_once rows faultless p.0 k.0 n p.1 (c.typed_as.named ∙ ap Some (one_type rows t (fun c.typed_as.argument c.typed_as.result) p.0 c.typed p.2))))) in
-      let alike : p.0 ≡ A = some_same (sym p.1 ∙ ap (slice_get (types rows)) same ∙ f.named) in
+      let alike : p.0 ≡ A = same_Some _ _ (sym p.1 ∙ ap (slice_get (types rows)) same ∙ f.named) in
       record { typed_as = f; variable = l.0; body = l.1; lam = l.2; typed = subst (HasType rows t) alike p.2; closed = λ x free. h (λ c. c.closed x free) }
 
   method_kept : (f : MethodForm) → ((MethodRule rows f → ⊥) → ⊥) → MethodRule rows f
@@ -126,7 +127,7 @@ module _ (rows : List Row) (fine : WellTyped rows) (known : List ℕ) (typed : T
           let p = and_parts (is_int rows (Some n)) (is_num (term_at rows t)) e in
           let i = int_said rows faultless (Some n) p.0 in
           let w = num_said (term_at rows t) p.1 in
-          inl (record { int_type = ap (slice_get (types rows)) (some_same i.1) ∙ i.2; word = w.0; num = w.1 })
+          inl (record { int_type = ap (slice_get (types rows)) (same_Some _ _ i.1) ∙ i.2; word = w.0; num = w.1 })
       step false e =
           inr (closed_kept n t (λ k. h (⊎_elim (λ m.
           let z : true ≡ false = sym (and_from _ _ (int_told rows faultless n m.int_type) (ap is_num m.num)) ∙ e in
@@ -141,7 +142,7 @@ module _ (rows : List Row) (fine : WellTyped rows) (known : List ℕ) (typed : T
   global_sound : (g n t : ℕ) → global_type_at rows g ≡ Some n → global_term_at rows g ≡ Some t → GlobalRule rows n t
   global_sound g n t e h =
       let r = global_type_row (slice_get (section_rows Globals rows) g) n e in
-      let same : r.1 ≡ t = some_same (sym (ap global_term_of r.2) ∙ h) in
+      let same : r.1 ≡ t = same_Some _ _ (sym (ap global_term_of r.2) ∙ h) in
       let o = origin Globals rows g (GlobalRow r.0 n r.1) r.2 in
       subst (GlobalRule rows n) same (global_kept n r.1 (λ k. fine o.index (Typing Definition) (GlobalRow r.0 n r.1, o.at, k)))
 

@@ -1,4 +1,5 @@
 -- The type that is found for a term is the type that it has. Assumes nothing.
+use Rattle.std.proofs.lemmas.Option.{none-some, same_Some}
 use Rattle.std.proofs.Common.{◌≡◌, ℕ, ◌<◌, Bool, true, false, cond, ◌&&◌, List, length, get_or, Some, None, Ok, Err, Option, sym, refl, ap, ◌∙◌, subst, arith, eq-eqb, true-eqb}
 use Rattle.std.specs.List.{slice_get}
 use Rattle.std.proofs.lemmas.Option.{slice_get-get_or}
@@ -14,7 +15,7 @@ use Rattle.rows.specs.Types.{Tree, unit, int, pair, fun, tree, types}
 use Rattle.rows.specs.Faults.{Faultless}
 use Rattle.library.specs.Listing.{section_rows, type_form_at, variable_type_at, method_type_at, global_type_at}
 use Rattle.library.specs.Typing.{TermIs, HasType, unit_rule, num_rule, var_rule, meth_rule, get_rule, lam_rule, set_rule, op_rule, pair_rule, fst_rule, snd_rule, app_rule, if_rule, let_rule, assert_rule}
-use Rattle.library.proofs.Lists.{none_some, some_same, nth_inside, nth_there}
+use Rattle.library.proofs.Lists.{nth_inside, nth_there}
 use Rattle.library.specs.declared.wanted.Wanted.{Wanted}
 use Rattle.library.specs.declared.wanted.Wanted.TheVariants.{Number, Form}
 use Rattle.library.specs.Inference.{number_of_form, by_number, function_of, pair_of, same_number, form_named, first_part, second_part, result_for, is_int, wanted, listed, settled, type_of}
@@ -70,7 +71,7 @@ result_said p (Some (PairType a b)) w e = cc
 result_said p (Some (FunType a b)) w e =
     let k = kept_said (same_number (Some a) p) (Some (Number b)) w e in
     let s = same_said (Some a) p k.0 in
-    (a, b, refl, s.2 ∙ sym s.1, sym (some_same k.1))
+    (a, b, refl, s.2 ∙ sym s.1, sym (same_Some _ _ k.1))
 
 module _ (rows : List Row) (fine : Faultless rows) where
   named_said : (o : Option ℕ) (f : TypeForm) → form_named rows o ≡ Some f → (n : ℕ) × (o ≡ Some n) × (type_form_at rows n ≡ Some f)
@@ -101,11 +102,11 @@ module _ (rows : List Row) (fine : Faultless rows) where
     part_has : (j k : ℕ) (A : Tree) → slice_get known j ≡ Some k → slice_get (types rows) k ≡ Some A → HasType rows j A
     part_has j k A e g =
         let p = each j k e in
-        subst (HasType rows j) (some_same (sym p.1 ∙ g)) p.2
+        subst (HasType rows j) (same_Some _ _ (sym p.1 ∙ g)) p.2
 
     pub sound : (t : ℕ) (form : TermForm) (w : Wanted) → TermIs rows t form → wanted rows known form ≡ Some w → (A : Tree) × Wants w A × HasType rows t A
-    sound t UnitTerm w h e = subst (λ v. (A : Tree) × Wants v A × HasType rows t A) (some_same e) (unit, (tt, refl), unit_rule h)
-    sound t (Num i) w h e = subst (λ v. (A : Tree) × Wants v A × HasType rows t A) (some_same e) (int, (tt, refl), num_rule h)
+    sound t UnitTerm w h e = subst (λ v. (A : Tree) × Wants v A × HasType rows t A) (same_Some _ _ e) (unit, (tt, refl), unit_rule h)
+    sound t (Num i) w h e = subst (λ v. (A : Tree) × Wants v A × HasType rows t A) (same_Some _ _ e) (int, (tt, refl), num_rule h)
     sound t (Var x) w h e =
         let s = number_said (variable_type_at rows x) w e in
         let a = nth_there (types rows) s.0 (variable_below rows fine x s.0 s.1) in
@@ -124,29 +125,29 @@ module _ (rows : List Row) (fine : Faultless rows) where
         let p = each a s.1 s.3 in
         let i = nth_inside (types rows) s.0 u.0 u.1 in
         let j = nth_inside (types rows) s.1 p.0 p.1 in
-        let x' : u.0 ≡ get_or (types rows) s.0 unit = some_same (sym u.1 ∙ slice_get-get_or (types rows) s.0 unit i) in
-        let y' : p.0 ≡ get_or (types rows) s.1 unit = some_same (sym p.1 ∙ slice_get-get_or (types rows) s.1 unit j) in
+        let x' : u.0 ≡ get_or (types rows) s.0 unit = same_Some _ _ (sym u.1 ∙ slice_get-get_or (types rows) s.0 unit i) in
+        let y' : p.0 ≡ get_or (types rows) s.1 unit = same_Some _ _ (sym p.1 ∙ slice_get-get_or (types rows) s.1 unit j) in
         let z : fun u.0 p.0 ≡ fun (get_or (types rows) s.0 unit) (get_or (types rows) s.1 unit) = cc in
         subst (λ v. (A : Tree) × Wants v A × HasType rows t A) (sym s.4) (fun u.0 p.0, ((i, j), z), lam_rule h (record { number = s.0; is = s.2; named = u.1 }) p.2)
     sound t (Set r a) w h e =
         let k = kept_said (same_number (global_type_at rows r) (slice_get known a)) (Some (Form UnitType)) w e in
         let s = same_said (global_type_at rows r) (slice_get known a) k.0 in
         let p = each a s.0 s.2 in
-        subst (λ v. (A : Tree) × Wants v A × HasType rows t A) (some_same k.1) (unit, (tt, refl), set_rule h (record { number = s.0; is = s.1; named = p.1 }) p.2)
+        subst (λ v. (A : Tree) × Wants v A × HasType rows t A) (same_Some _ _ k.1) (unit, (tt, refl), set_rule h (record { number = s.0; is = s.1; named = p.1 }) p.2)
     sound t (Op o a b) w h e =
         let k = kept_said (is_int rows (slice_get known a) && is_int rows (slice_get known b)) (Some (Form IntType)) w e in
         let q = and_parts (is_int rows (slice_get known a)) (is_int rows (slice_get known b)) k.0 in
         let x = int_said (slice_get known a) q.0 in
         let y = int_said (slice_get known b) q.1 in
-        subst (λ v. (A : Tree) × Wants v A × HasType rows t A) (some_same k.1) (int, (tt, refl), op_rule h (part_has a x.0 int x.1 x.2) (part_has b y.0 int y.1 y.2))
+        subst (λ v. (A : Tree) × Wants v A × HasType rows t A) (same_Some _ _ k.1) (int, (tt, refl), op_rule h (part_has a x.0 int x.1 x.2) (part_has b y.0 int y.1 y.2))
     sound t (Pair a b) w h e =
         let s = pair_said (slice_get known a) (slice_get known b) w e in
         let u = each a s.0 s.2 in
         let p = each b s.1 s.3 in
         let i = nth_inside (types rows) s.0 u.0 u.1 in
         let j = nth_inside (types rows) s.1 p.0 p.1 in
-        let x' : u.0 ≡ get_or (types rows) s.0 unit = some_same (sym u.1 ∙ slice_get-get_or (types rows) s.0 unit i) in
-        let y' : p.0 ≡ get_or (types rows) s.1 unit = some_same (sym p.1 ∙ slice_get-get_or (types rows) s.1 unit j) in
+        let x' : u.0 ≡ get_or (types rows) s.0 unit = same_Some _ _ (sym u.1 ∙ slice_get-get_or (types rows) s.0 unit i) in
+        let y' : p.0 ≡ get_or (types rows) s.1 unit = same_Some _ _ (sym p.1 ∙ slice_get-get_or (types rows) s.1 unit j) in
         let z : pair u.0 p.0 ≡ pair (get_or (types rows) s.0 unit) (get_or (types rows) s.1 unit) = cc in
         subst (λ v. (A : Tree) × Wants v A × HasType rows t A) (sym s.4) (pair u.0 p.0, ((i, j), z), pair_rule h u.2 p.2)
     sound t (Fst a) w h e =
@@ -180,7 +181,7 @@ module _ (rows : List Row) (fine : Faultless rows) where
         let s = same_said (slice_get known a) (slice_get known b) q.1 in
         let n = number_said (slice_get known a) w k.1 in
         let p = each a s.0 s.1 in
-        let m : w ≡ Number s.0 = n.2 ∙ ap Number (some_same (sym n.1 ∙ s.1)) in
+        let m : w ≡ Number s.0 = n.2 ∙ ap Number (same_Some _ _ (sym n.1 ∙ s.1)) in
         subst (λ v. (A : Tree) × Wants v A × HasType rows t A) (sym m) (p.0, p.1, if_rule h (part_has c x.0 int x.1 x.2) p.2 (part_has b s.0 p.0 s.2 p.1))
     sound t (Let x a b) w h e =
         let k = kept_said (same_number (variable_type_at rows x) (slice_get known a)) (by_number (slice_get known b)) w e in
@@ -192,7 +193,7 @@ module _ (rows : List Row) (fine : Faultless rows) where
     sound t (Assert a) w h e =
         let k = kept_said (is_int rows (slice_get known a)) (Some (Form UnitType)) w e in
         let x = int_said (slice_get known a) k.0 in
-        subst (λ v. (A : Tree) × Wants v A × HasType rows t A) (some_same k.1) (unit, (tt, refl), assert_rule h (part_has a x.0 int x.1 x.2))
+        subst (λ v. (A : Tree) × Wants v A × HasType rows t A) (same_Some _ _ k.1) (unit, (tt, refl), assert_rule h (part_has a x.0 int x.1 x.2))
 
     -- a part that has a type has its number
     part_known : (t j : ℕ) (A : Tree) → length known ≡ t → j < t → HasType rows j A → (k : ℕ) × (slice_get known j ≡ Some k) × (slice_get (types rows) k ≡ Some A)
@@ -324,7 +325,7 @@ module _ (rows : List Row) (fine : Faultless rows) where
           place (Some m) h = cc
 
           step : (o : Option Wanted) → wanted rows known form ≡ o → settled rows o ≡ Err Parts → ⊥
-          step None q h = let c = complete t form A long is d in none_some (sym q ∙ c.1)
+          step None q h = let c = complete t form A long is d in none-some _ (sym q ∙ c.1)
           step (Some (Number m)) q h = cc
           step (Some (Form f)) q h = place (number_of_form rows f) h
 

@@ -1,4 +1,5 @@
 -- The rules for methods and globals are kept where they are found to be kept. Assumes nothing.
+use Rattle.std.proofs.lemmas.Option.{same_Some}
 use Rattle.std.proofs.Common.{◌≡◌, ℕ, ◌^◌, ◌<◌, true, false, ◌&&◌, List, length, get_or, ℤ, Some, None, Option, sym, refl, ap, ◌∙◌, subst, inl, inr, ⊎_elim, arith, eq-eqb}
 use Rattle.std.specs.List.{slice_get}
 use Rattle.std.proofs.lemmas.Bool.{and_parts, and_from, or_cases, or_left, or_right}
@@ -13,7 +14,7 @@ use Rattle.rows.specs.Types.{unit, fun, types}
 use Rattle.rows.specs.Faults.{Faultless}
 use Rattle.library.specs.Listing.{section_rows, type_form_at, term_at}
 use Rattle.library.specs.Typing.{HasType}
-use Rattle.library.proofs.Lists.{some_same, nth_there}
+use Rattle.library.proofs.Lists.{nth_there}
 use Rattle.rows.specs.declared.forms.MethodForm.{MethodForm}
 use Rattle.rows.specs.declared.forms.MethodForm.TheVariants.{Abstract, Public, Private}
 use Rattle.rows.specs.declared.forms.Row.TheVariants.{«Type» as TypeRow, Variable as VariableRow, Method as MethodRow, Global as GlobalRow, Term as TermRow}
@@ -100,7 +101,7 @@ module _ (rows : List Row) (fine : Faultless rows) (known sets : List ℕ) (each
         variable = l.0;
         body = l.1;
         lam = l.2;
-        typed = subst (HasType rows t) (some_same (sym h.1 ∙ f.named)) h.2;
+        typed = subst (HasType rows t) (same_Some _ _ (sym h.1 ∙ f.named)) h.2;
         closed = closed_empty rows fine sets scoped t empty;
       }
 
@@ -132,7 +133,7 @@ module _ (rows : List Row) (fine : Faultless rows) (known sets : List ℕ) (each
       let p = and_parts (is_int rows (Some n)) (is_num (term_at rows t)) h in
       let i = int_said rows fine (Some n) p.0 in
       let w = num_said (term_at rows t) p.1 in
-      inl (record { int_type = ap (slice_get (types rows)) (some_same i.1) ∙ i.2; word = w.0; num = w.1 })) (λ h. inr (closed_kept n t h)) (or_cases (is_int rows (Some n) && is_num (term_at rows t)) (closed_function rows known sets n t) e)
+      inl (record { int_type = ap (slice_get (types rows)) (same_Some _ _ i.1) ∙ i.2; word = w.0; num = w.1 })) (λ h. inr (closed_kept n t h)) (or_cases (is_int rows (Some n) && is_num (term_at rows t)) (closed_function rows known sets n t) e)
 
   global_told : (n t : ℕ) → GlobalRule rows n t → global_stands rows known sets n t ≡ true
   global_told n t =

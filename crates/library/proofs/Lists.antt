@@ -1,4 +1,5 @@
 -- Lists by place, and the rows of a section. Assumes nothing.
+use Rattle.std.proofs.lemmas.Option.{same_Some}
 use Rattle.std.proofs.Common.{◌≡◌, ℕ, zero, suc, ◌<◌, ◌≤◌, Bool, true, false, cond, eqb, List, [], ◌∷◌, ◌++◌, length, not, take, drop, Some, None, Option, MatchOption, sym, refl, ap, ◌∙◌, subst, arith, eq-eqb, true-eqb}
 use Rattle.std.specs.List.{position, position_or_len, slice_get}
 use Rattle.std.proofs.lemmas.List.Sums.{fails_before_first}
@@ -14,13 +15,6 @@ use Rattle.rows.specs.declared.forms.TypeForm.TheVariants.{Unit as UnitType, Int
 use Rattle.rows.specs.declared.forms.Row.{Row}
 use Rattle.library.specs.Listing.{type_form_of}
 use Rattle.library.specs.Inference.{same_form, is_form, first_of_form}
-
--- none is no value
-pub none_some : {X : Type 0} {x : X} → None ≡ Some x → ⊥
-none_some e = cc
-
-pub some_same : {X : Type 0} {x y : X} → Some x ≡ Some y → x ≡ y
-some_same e = cc
 
 pub nth_inside : {X : Type 0} (xs : List X) (i : ℕ) (x : X) → slice_get xs i ≡ Some x → i < length xs
 nth_inside xs i x e = slice_get_within xs i x e
@@ -106,10 +100,10 @@ found_form form (r ∷ rs) n e = step (λ m. found_form form rs m) (is_form form
   where
     later : ((m : ℕ) → first_of_form form rs ≡ Some m → type_form_of (slice_get rs m) ≡ Some form) → (o : Option ℕ) → first_of_form form rs ≡ o → option_map suc o ≡ Some n → type_form_of (slice_get (r ∷ rs) n) ≡ Some form
     later again None z g = cc
-    later again (Some m) z g = subst (λ x. type_form_of (slice_get (r ∷ rs) x) ≡ Some form) (some_same g) (again m z)
+    later again (Some m) z g = subst (λ x. type_form_of (slice_get (r ∷ rs) x) ≡ Some form) (same_Some _ _ g) (again m z)
 
     step : ((m : ℕ) → first_of_form form rs ≡ Some m → type_form_of (slice_get rs m) ≡ Some form) → (b : Bool) → is_form form (type_form_of (Some r)) ≡ b → cond b (Some 0) (option_map suc (first_of_form form rs)) ≡ Some n → type_form_of (slice_get (r ∷ rs) n) ≡ Some form
-    step again true q h = subst (λ j. type_form_of (slice_get (r ∷ rs) j) ≡ Some form) (some_same h) (is_form_true form _ q)
+    step again true q h = subst (λ j. type_form_of (slice_get (r ∷ rs) j) ≡ Some form) (same_Some _ _ h) (is_form_true form _ q)
     step again false q h = later again (first_of_form form rs) refl h
 
 pub not_found : (form : TypeForm) (rs : List Row) (n : ℕ) → first_of_form form rs ≡ None → type_form_of (slice_get rs n) ≡ Some form → ⊥

@@ -1,4 +1,5 @@
 -- The free variables that are found for a term are those that it has. Assumes nothing.
+use Rattle.std.proofs.lemmas.Option.{none-some, same_Some}
 use Rattle.std.proofs.Common.{◌≡◌, ℕ, zero, suc, ◌^◌, ◌<◌, ◌⊎◌, List, take, Some, None, Option, unwrap_or, sym, refl, ap, ◌∙◌, subst, inl, inr, ⊎_elim, arith}
 use Rattle.std.specs.List.{slice_get}
 use Rattle.rows.specs.declared.forms.TermForm.{TermForm}
@@ -6,7 +7,7 @@ use Rattle.rows.specs.declared.forms.TermForm.TheVariants.{Unit as UnitTerm, Num
 use Rattle.rows.specs.declared.forms.Row.{Row}
 use Rattle.rows.specs.Faults.{Faultless}
 use Rattle.library.specs.Typing.{TermIs}
-use Rattle.library.proofs.Lists.{none_some, some_same, nth_inside, nth_there}
+use Rattle.library.proofs.Lists.{nth_inside, nth_there}
 use lib.Bits.{bit_or}
 use Rattle.rows.specs.declared.forms.Section.TheVariants.{Variables}
 use Rattle.library.specs.Closed.{Closed, Free, inside, itself, parts}
@@ -16,10 +17,10 @@ use Rattle.library.proofs.Sorted.{few, term_back, term_inside, term_there}
 use Rattle.library.proofs.Bits.{In, empty_set, in_only, in_without, nothing_in, or_left, or_out, or_right, out_only, out_without}
 
 same_part : {q a : ℕ} {bound other : Option ℕ} → ◌≡◌ {A = Option (ℕ × Option ℕ)} (Some (a, other)) (Some (q, bound)) → a ≡ q
-same_part e = ap (λ p. p.0) (some_same e)
+same_part e = ap (λ p. p.0) (same_Some _ _ e)
 
 same_bound : {q a : ℕ} {bound other : Option ℕ} → ◌≡◌ {A = Option (ℕ × Option ℕ)} (Some (a, other)) (Some (q, bound)) → bound ≡ other
-same_bound e = ap (λ p. p.1) (sym (some_same e))
+same_bound e = ap (λ p. p.1) (sym (same_Some _ _ e))
 
 -- a part of a term in which the variable isn't bound
 record Inside (known : List ℕ) (x : ℕ) (form : TermForm) : Type 0 where
@@ -72,16 +73,16 @@ in_part known x small (Num z) i = absurd (nothing_in x i)
 in_part known x small (Var y) i = inl (ap Var (out_only x y i))
 in_part known x small (Meth m) i = absurd (nothing_in x i)
 in_part known x small (Get r) i = absurd (nothing_in x i)
-in_part known x small (Lam y a) i = (let w = out_without x y (unwrap_or (slice_get known a) 0) small (i) in inr (record { k = 0; part = a; bound = Some y; is = refl; unbound = λ e. w.0 (some_same e); there = w.1 }))
-in_part known x small (Set r a) i = (inr (record { k = 0; part = a; bound = None; is = refl; unbound = none_some; there = i }))
-in_part known x small (Op o a b) i = ⊎_elim (λ h. (inr (record { k = 0; part = a; bound = None; is = refl; unbound = none_some; there = h }))) (λ h. (inr (record { k = 1; part = b; bound = None; is = refl; unbound = none_some; there = h }))) (or_out x (unwrap_or (slice_get known a) 0) (unwrap_or (slice_get known b) 0) i)
-in_part known x small (Pair a b) i = ⊎_elim (λ h. (inr (record { k = 0; part = a; bound = None; is = refl; unbound = none_some; there = h }))) (λ h. (inr (record { k = 1; part = b; bound = None; is = refl; unbound = none_some; there = h }))) (or_out x (unwrap_or (slice_get known a) 0) (unwrap_or (slice_get known b) 0) i)
-in_part known x small (Fst a) i = (inr (record { k = 0; part = a; bound = None; is = refl; unbound = none_some; there = i }))
-in_part known x small (Snd a) i = (inr (record { k = 0; part = a; bound = None; is = refl; unbound = none_some; there = i }))
-in_part known x small (App f a) i = ⊎_elim (λ h. (inr (record { k = 0; part = f; bound = None; is = refl; unbound = none_some; there = h }))) (λ h. (inr (record { k = 1; part = a; bound = None; is = refl; unbound = none_some; there = h }))) (or_out x (unwrap_or (slice_get known f) 0) (unwrap_or (slice_get known a) 0) i)
-in_part known x small (If c a b) i = ⊎_elim (λ h. (inr (record { k = 0; part = c; bound = None; is = refl; unbound = none_some; there = h }))) (λ g. ⊎_elim (λ h. (inr (record { k = 1; part = a; bound = None; is = refl; unbound = none_some; there = h }))) (λ h. (inr (record { k = 2; part = b; bound = None; is = refl; unbound = none_some; there = h }))) (or_out x (unwrap_or (slice_get known a) 0) (unwrap_or (slice_get known b) 0) g)) (or_out x (unwrap_or (slice_get known c) 0) (bit_or (unwrap_or (slice_get known a) 0) (unwrap_or (slice_get known b) 0)) i)
-in_part known x small (Let y a b) i = ⊎_elim (λ h. (inr (record { k = 0; part = a; bound = None; is = refl; unbound = none_some; there = h }))) (λ h. (let w = out_without x y (unwrap_or (slice_get known b) 0) small (h) in inr (record { k = 1; part = b; bound = Some y; is = refl; unbound = λ e. w.0 (some_same e); there = w.1 }))) (or_out x (unwrap_or (slice_get known a) 0) (without (unwrap_or (slice_get known b) 0) y) i)
-in_part known x small (Assert a) i = (inr (record { k = 0; part = a; bound = None; is = refl; unbound = none_some; there = i }))
+in_part known x small (Lam y a) i = (let w = out_without x y (unwrap_or (slice_get known a) 0) small (i) in inr (record { k = 0; part = a; bound = Some y; is = refl; unbound = λ e. w.0 (same_Some _ _ e); there = w.1 }))
+in_part known x small (Set r a) i = (inr (record { k = 0; part = a; bound = None; is = refl; unbound = none-some _; there = i }))
+in_part known x small (Op o a b) i = ⊎_elim (λ h. (inr (record { k = 0; part = a; bound = None; is = refl; unbound = none-some _; there = h }))) (λ h. (inr (record { k = 1; part = b; bound = None; is = refl; unbound = none-some _; there = h }))) (or_out x (unwrap_or (slice_get known a) 0) (unwrap_or (slice_get known b) 0) i)
+in_part known x small (Pair a b) i = ⊎_elim (λ h. (inr (record { k = 0; part = a; bound = None; is = refl; unbound = none-some _; there = h }))) (λ h. (inr (record { k = 1; part = b; bound = None; is = refl; unbound = none-some _; there = h }))) (or_out x (unwrap_or (slice_get known a) 0) (unwrap_or (slice_get known b) 0) i)
+in_part known x small (Fst a) i = (inr (record { k = 0; part = a; bound = None; is = refl; unbound = none-some _; there = i }))
+in_part known x small (Snd a) i = (inr (record { k = 0; part = a; bound = None; is = refl; unbound = none-some _; there = i }))
+in_part known x small (App f a) i = ⊎_elim (λ h. (inr (record { k = 0; part = f; bound = None; is = refl; unbound = none-some _; there = h }))) (λ h. (inr (record { k = 1; part = a; bound = None; is = refl; unbound = none-some _; there = h }))) (or_out x (unwrap_or (slice_get known f) 0) (unwrap_or (slice_get known a) 0) i)
+in_part known x small (If c a b) i = ⊎_elim (λ h. (inr (record { k = 0; part = c; bound = None; is = refl; unbound = none-some _; there = h }))) (λ g. ⊎_elim (λ h. (inr (record { k = 1; part = a; bound = None; is = refl; unbound = none-some _; there = h }))) (λ h. (inr (record { k = 2; part = b; bound = None; is = refl; unbound = none-some _; there = h }))) (or_out x (unwrap_or (slice_get known a) 0) (unwrap_or (slice_get known b) 0) g)) (or_out x (unwrap_or (slice_get known c) 0) (bit_or (unwrap_or (slice_get known a) 0) (unwrap_or (slice_get known b) 0)) i)
+in_part known x small (Let y a b) i = ⊎_elim (λ h. (inr (record { k = 0; part = a; bound = None; is = refl; unbound = none-some _; there = h }))) (λ h. (let w = out_without x y (unwrap_or (slice_get known b) 0) small (h) in inr (record { k = 1; part = b; bound = Some y; is = refl; unbound = λ e. w.0 (same_Some _ _ e); there = w.1 }))) (or_out x (unwrap_or (slice_get known a) 0) (without (unwrap_or (slice_get known b) 0) y) i)
+in_part known x small (Assert a) i = (inr (record { k = 0; part = a; bound = None; is = refl; unbound = none-some _; there = i }))
 
 module _ (rows : List Row) (fine : Faultless rows) where
   -- variables have numbers below 64

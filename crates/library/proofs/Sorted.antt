@@ -1,4 +1,5 @@
 -- What rows without text fault say of their sections. Assumes nothing.
+use Rattle.std.proofs.lemmas.Option.{same_Some}
 use Rattle.std.proofs.Common.{◌≡◌, ℕ, zero, suc, ◌+◌, ◌<◌, ◌≤◌, Bool, true, false, cond, eqb, List, [], ◌∷◌, ◌++◌, length, get_or, take, drop, Some, None, Option, unwrap_or, sym, refl, ap, ◌∙◌, subst, inl, ⊎_elim, arith, lit<, length-append, eq-eqb, true-eqb}
 use Rattle.std.specs.List.{slice_get, AllByRecursion}
 use Rattle.std.proofs.lemmas.Option.{slice_get-get_or, unwrap_or-slice_get}
@@ -22,7 +23,7 @@ use Rattle.rows.specs.Types.{Tree, unit, tree, types, types_after, with_row}
 use Rattle.rows.specs.Faults.{Faultless, InOrder, RefersBack, RowFault, NoneOf}
 use Rattle.rows.proofs.Admits.{types_count}
 use Rattle.library.specs.Listing.{section_rows, type_form_of, variable_type_of, method_of, method_type, method_type_of, global_type_of, term_of, type_form_at, term_at, variable_type_at, method_type_at, global_type_at}
-use Rattle.library.proofs.Lists.{some_same, nth_inside, nth_there, nth_left, nth_end, nth_take, parted}
+use Rattle.library.proofs.Lists.{nth_inside, nth_there, nth_left, nth_end, nth_take, parted}
 
 -- which row says it
 pub type_form_row : (o : Option Row) (v : TypeForm) → type_form_of o ≡ Some v → (m : ℕ) × (o ≡ Some (TypeRow m v))
@@ -53,7 +54,7 @@ pub method_type_row : (o : Option Row) (v : ℕ) → method_type_of o ≡ Some v
 method_type_row None v e = cc
 method_type_row (Some (TypeRow n f)) v e = cc
 method_type_row (Some (VariableRow n t)) v e = cc
-method_type_row (Some (MethodRow n f)) v e = (n, f, refl, some_same e)
+method_type_row (Some (MethodRow n f)) v e = (n, f, refl, same_Some _ _ e)
 method_type_row (Some (GlobalRow n t u)) v e = cc
 method_type_row (Some (TermRow n f)) v e = cc
 
@@ -150,14 +151,14 @@ origin s (r ∷ rs) n row e = step (λ k. origin s rs k row) (eqb (place (sectio
     later false q k m o e = record { index = suc o.index; at = o.at; in_section = o.in_section; number = ap (λ b. length (cond b (r ∷ section_rows s (take o.index rs)) (section_rows s (take o.index rs)))) q ∙ o.number ∙ e }
 
     step : ((k : ℕ) → slice_get (section_rows s rs) k ≡ Some row → Origin s rs k row) → (b : Bool) → eqb (place (section r)) (place s) ≡ b → (k : ℕ) → slice_get (cond b (r ∷ section_rows s rs) (section_rows s rs)) k ≡ Some row → Origin s (r ∷ rs) k row
-    step again true q zero h = record { index = 0; at = h; in_section = ap (λ x. place (section x)) (sym (some_same h)) ∙ true-eqb _ _ (sym q); number = refl }
+    step again true q zero h = record { index = 0; at = h; in_section = ap (λ x. place (section x)) (sym (same_Some _ _ h)) ∙ true-eqb _ _ (sym q); number = refl }
     step again true q (suc k) h = later true q k (suc k) (again k h) refl
     step again false q k h = later false q k k (again k h) refl
 
 -- and the other way round
 pub in_section : (s : Section) (rows : List Row) (i : ℕ) (row : Row) → slice_get rows i ≡ Some row → place (section row) ≡ place s → slice_get (section_rows s rows) (length (section_rows s (take i rows))) ≡ Some row
 in_section s [] i row e same = cc
-in_section s (r ∷ rs) zero row e same = ap (λ b. slice_get (cond b (r ∷ section_rows s rs) (section_rows s rs)) 0) (eq-eqb _ _ (ap (λ x. place (section x)) (some_same e) ∙ same)) ∙ e
+in_section s (r ∷ rs) zero row e same = ap (λ b. slice_get (cond b (r ∷ section_rows s rs) (section_rows s rs)) 0) (eq-eqb _ _ (ap (λ x. place (section x)) (same_Some _ _ e) ∙ same)) ∙ e
 in_section s (r ∷ rs) (suc i) row e same = step (eqb (place (section r)) (place s)) (in_section s rs i row e same)
   where
     step : (b : Bool) → slice_get (section_rows s rs) (length (section_rows s (take i rs))) ≡ Some row → slice_get (cond b (r ∷ section_rows s rs) (section_rows s rs)) (length (cond b (r ∷ section_rows s (take i rs)) (section_rows s (take i rs)))) ≡ Some row
@@ -191,7 +192,7 @@ section_part s (r ∷ rs) (suc i) = step (eqb (place (section r)) (place s)) (se
 -- one row more
 pub section_more : (s : Section) (rows : List Row) (i : ℕ) (row : Row) → slice_get rows i ≡ Some row → length (section_rows s (take (suc i) rows)) ≡ length (section_rows s (take i rows)) + cond (eqb (place (section row)) (place s)) 1 0
 section_more s [] i row e = cc
-section_more s (r ∷ rs) zero row e = ap (λ x. length (section_rows s (x ∷ []))) (some_same e) ∙ step (eqb (place (section row)) (place s))
+section_more s (r ∷ rs) zero row e = ap (λ x. length (section_rows s (x ∷ []))) (same_Some _ _ e) ∙ step (eqb (place (section row)) (place s))
   where
     step : (b : Bool) → length (cond b (row ∷ []) []) ≡ 0 + cond b 1 0
     step true = refl
@@ -263,7 +264,7 @@ module _ (rows : List Row) (fine : Faultless rows) where
   pub good_at : (i : ℕ) (row : Row) → slice_get rows i ≡ Some row → NoneOf (RowFault true (take i rows) row)
   good_at i row e =
       let lt = nth_inside rows i row e in
-      fine i row lt (some_same (sym (slice_get-get_or rows i row lt) ∙ e))
+      fine i row lt (same_Some _ _ (sym (slice_get-get_or rows i row lt) ∙ e))
 
   -- a type's form is over earlier types, and the type is the form's tree
   pub type_named : (n : ℕ) (f : TypeForm) → type_form_at rows n ≡ Some f → PartsBelow n f × (slice_get (types rows) n ≡ Some (tree (types rows) f))
@@ -311,7 +312,7 @@ module _ (rows : List Row) (fine : Faultless rows) where
       let sooner : o.index < p.index = ⊎_elim (λ h. h) (λ h. absurd (omega (arith, section_grows Types rows p.index o.index h, o.number, p.number))) (cases_lt o.index p.index) in
       let inside : slice_get (take p.index rows) o.index ≡ Some (TypeRow r.0 f) = nth_take rows o.index p.index sooner ∙ o.at in
       let short = nth_inside (take p.index rows) o.index (TypeRow r.0 f) inside in
-      good_at p.index (TypeRow s.0 f) p.at Repeat (o.index, r.0, short, some_same (sym (slice_get-get_or (take p.index rows) o.index (TypeRow r.0 f) short) ∙ inside))
+      good_at p.index (TypeRow s.0 f) p.at Repeat (o.index, r.0, short, same_Some _ _ (sym (slice_get-get_or (take p.index rows) o.index (TypeRow r.0 f) short) ∙ inside))
 
   pub form_once : (m n : ℕ) (f : TypeForm) → type_form_at rows m ≡ Some f → type_form_at rows n ≡ Some f → m ≡ n
   form_once m n f e g =
@@ -430,7 +431,7 @@ module _ (rows : List Row) (fine : Faultless rows) where
           omega (arith, none, count_length (section row) (take j rows), section_more (section row) rows i row e, mine, section_grows (section row) rows (suc i) j (omega arith)))
           (λ ge.
           let here : j ≡ i = omega arith in
-          let same : r.0 ≡ row = some_same (sym o.at ∙ ap (slice_get rows) here ∙ e) in
+          let same : r.0 ≡ row = same_Some _ _ (sym o.at ∙ ap (slice_get rows) here ∙ e) in
           omega (arith, ap (λ x. place (section x)) same, o.in_section)) (cases_lt i j)) (cases_lt j i))
 
   inside_le : (i : ℕ) (row : Row) → slice_get rows i ≡ Some row → i ≤ length rows

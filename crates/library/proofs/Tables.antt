@@ -1,4 +1,5 @@
 -- Tables of types and of free variables, one term more at a time. Assumes nothing.
+use Rattle.std.proofs.lemmas.Option.{same_Some}
 use Rattle.std.proofs.Common.{◌≡◌, ℕ, zero, suc, ◌<◌, ◌≤◌, true, List, [], ◌∷◌, ◌++◌, length, take, Some, None, Ok, Err, Option, Result, sym, refl, ap, ◌∙◌, subst, ⊎_elim, arith, length-append, eq-eqb, true-eqb}
 use Rattle.std.specs.List.{slice_get}
 use Rattle.faults.specs.declared.TypingFault.{TypingFault}
@@ -9,7 +10,7 @@ use Rattle.rows.specs.Types.{Tree, types}
 use Rattle.rows.specs.Faults.{Faultless}
 use Rattle.library.specs.Listing.{section_rows, term_at}
 use Rattle.library.specs.Typing.{HasType}
-use Rattle.library.proofs.Lists.{some_same, nth_inside}
+use Rattle.library.proofs.Lists.{nth_inside}
 use Rattle.std.proofs.lemmas.List.{length-take, take-append-le}
 use Rattle.std.proofs.lemmas.Bool.{cases_lt}
 use Rattle.library.specs.Inference.{TypedBy, gives, type_of, types_term}
@@ -32,8 +33,8 @@ module _ (rows : List Row) (Right : List ℕ → TermForm → ℕ → Type 0) wh
       newest : length table ≤ t → Right (take t (table ++ (n ∷ []))) f m
       newest le =
           let last : t ≡ length table = omega (arith, nth_inside (table ++ (n ∷ [])) t m e, length-append table (n ∷ [])) in
-          let same : n ≡ m = some_same (sym (nth_end table n []) ∙ ap (slice_get (table ++ (n ∷ []))) (sym last) ∙ e) in
-          let alike : form ≡ f = some_same (sym is ∙ ap (term_at rows) (sym last) ∙ h) in
+          let same : n ≡ m = same_Some _ _ (sym (nth_end table n []) ∙ ap (slice_get (table ++ (n ∷ []))) (sym last) ∙ e) in
+          let alike : form ≡ f = same_Some _ _ (sym is ∙ ap (term_at rows) (sym last) ∙ h) in
           let all : table ≡ take t (table ++ (n ∷ [])) = sym (ap (λ k. take k (table ++ (n ∷ []))) last ∙ take-append-le (length table) table (n ∷ []) (omega arith) ∙ take_all table) in
           subst (λ ts. Right ts f m) all (subst (λ g. Right table g m) alike (subst (Right table form) same right))
 

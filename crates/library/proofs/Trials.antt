@@ -1,4 +1,5 @@
 -- Which fault of rows is the first. Assumes nothing.
+use Rattle.std.proofs.lemmas.Option.{same_Some}
 use Rattle.std.proofs.Common.{◌≡◌, ℕ, ◌<◌, true, cond, eqb, ◌⊎◌, List, length, take, Some, Ok, Err, Result, MatchResult, sym, refl, ap, ◌∙◌, subst, inl, inr, ⊎_elim, arith}
 use Rattle.std.specs.List.{slice_get}
 use Rattle.std.specs.Result.{IsErrAnd}
@@ -11,7 +12,7 @@ use Rattle.rows.specs.Types.{Tree}
 use Rattle.rows.specs.Faults.{Faultless}
 use Rattle.library.specs.Listing.{section_rows}
 use Rattle.library.specs.Typing.{HasType}
-use Rattle.library.proofs.Lists.{some_same, nth_inside, nth_there}
+use Rattle.library.proofs.Lists.{nth_inside, nth_there}
 use Rattle.std.proofs.lemmas.Bool.{cases_lt}
 use Rattle.faults.specs.declared.TextFault.{TextFault}
 use Rattle.faults.specs.declared.TextFault.TheVariants.{Form as FormFault, Number as NumberFault, Order, Reference, Limit, Repeat}
@@ -42,7 +43,7 @@ module _ (rows : List Row) (i : ℕ) (row : Row) (at : slice_get rows i ≡ Some
 
       smaller : (j : ℕ) (g : TextFault) → j ≡ i → text_number g < text_number fault → FaultAt rows j (Text g) → ⊥
       smaller j g same lt f =
-          let alike : f.0 ≡ row = some_same (sym f.1 ∙ ap (slice_get rows) same ∙ at) in
+          let alike : f.0 ≡ row = same_Some _ _ (sym f.1 ∙ ap (slice_get rows) same ∙ at) in
           least.none_smaller g lt (subst (λ r. RowFault true (take i rows) r g) alike (subst (λ k. RowFault true (take k rows) f.0 g) same f.2))
 
       earlier : (j : ℕ) (other : LibraryFault) → Before j other i (Text fault) → FaultAt rows j other → ⊥
@@ -99,7 +100,7 @@ module _ (rows : List Row) (fine : Faultless rows) where
       where
         same_place : (j : ℕ) → j ≡ i → FaultAt rows j (Typing Parts) → ⊥
         same_place j same f =
-            let alike : f.0 ≡ TermRow t form = some_same (sym f.1 ∙ ap (slice_get rows) same ∙ at) in
+            let alike : f.0 ≡ TermRow t form = same_Some _ _ (sym f.1 ∙ ap (slice_get rows) same ∙ at) in
             subst (λ r. HasTypingFault rows r Parts) alike f.2 here.type here.typed
 
         earlier : (j : ℕ) (other : LibraryFault) → Before j other i (Typing Unlisted) → FaultAt rows j other → ⊥
