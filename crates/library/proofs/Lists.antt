@@ -1,6 +1,6 @@
 -- Lists by place, and the rows of a section. Assumes nothing.
 use Rattle.std.proofs.lemmas.Option.{same_Some}
-use Rattle.std.proofs.Common.{◌≡◌, ℕ, zero, suc, ◌<◌, ◌≤◌, Bool, true, false, cond, eqb, List, [], ◌∷◌, ◌++◌, length, not, take, drop, Some, None, Option, MatchOption, sym, refl, ap, ◌∙◌, subst, arith, eq-eqb, true-eqb}
+use Rattle.std.proofs.Common.{◌≡◌, ℕ, zero, suc, ◌<◌, ◌≤◌, Bool, true, false, cond, eqb, List, [], ◌∷◌, ◌++◌, length, get_or, not, take, drop, Some, None, Option, MatchOption, sym, refl, ap, ◌∙◌, subst, arith, eq-eqb, true-eqb}
 use Rattle.std.specs.List.{position, position_or_len, slice_get}
 use Rattle.std.proofs.lemmas.List.Sums.{fails_before_first}
 use Rattle.std.proofs.lemmas.List.Quantifiers.{position-Some}
@@ -135,7 +135,9 @@ pub first_fails : {X : Type 0} (passes : X → Bool) (xs : List X) (n : ℕ) →
 first_fails passes xs n e =
     let inside : n < length xs = grind (arith, common_steps) in
     let there = nth_there xs n inside in
-    let failing = not-true _ (position-Some (λ y. not (passes y)) xs n there.0 e).1 in (
-      λ i x before at. subst (λ y. passes y ≡ true) (get_or_from_slice_get xs i x x at) (not-false _ ((position-Some (λ y. not (passes y)) xs n x e).2 i before)),
-      (there.0, there.1, subst (λ y. passes y ≡ false) (get_or_from_slice_get xs n there.0 there.0 there.1) failing),
+    let found = position-Some (λ y. not (passes y)) xs n there.0 e in
+    let failing = not-true (passes (get_or xs n there.0)) found.1 in
+    let read : get_or xs n there.0 ≡ there.0 = get_or_from_slice_get xs n there.0 there.0 there.1 in (
+      λ i x before at. ap passes (sym (get_or_from_slice_get xs i x x at)) ∙ not-false _ ((position-Some (λ y. not (passes y)) xs n x e).2 i before),
+      (there.0, there.1, ap passes (sym read) ∙ failing),
     )
