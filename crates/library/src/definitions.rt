@@ -69,7 +69,7 @@ impl Listing<'_> {
 
     // The place of the first row that breaks its rule.
     pub(crate) fn first_broken(self, terms: &[TermFacts]) -> Option<usize>
-        ensures first_place { result ≡ position (λ row. not (stands self.entry.rows.now (type_numbers terms.now) (free_sets terms.now) row)) self.entry.rows.now }
+        ensures all_before_stand { result ≡ position (λ row. not (stands self.entry.rows.now (type_numbers terms.now) (free_sets terms.now) row)) self.entry.rows.now }
     {
         self.rows.iter().position(|row| !self.stands(terms, *row))
     }

@@ -10,8 +10,8 @@ ghost use Rattle.std.specs.Prelude.{◌≡◌, vec_len};
 use super::facts::TermFacts;
 use rows::{Row, Tally};
 
-/// A library, which owns its rows. They are well-formed and well-typed. It is no model of its rows, which would hide
-/// that a refused mount leaves every field as it was.
+// It has no model, which would hide that a refused mount leaves every field as it was.
+/// A library, which owns its rows. They are well-formed and well-typed.
 #[derive(Drop)]
 pub struct Library {
     pub(crate) rows: Vec<Row>,

@@ -17,7 +17,7 @@ use std::alloc::Global;
 
 // Makes a library of rows.
 fn drafted(heap: Global, rows: &[Row]) -> Result<Library, MountFault>
-    ensures { MatchResult result (λ library. (library_rows library ≡ rows.now) × Answered rows.now (Ok tt) × SoundDefinitions rows.now) (λ fault. Answered rows.now (Err fault)) }
+    ensures library_or_first_fault { MatchResult result (λ library. (library_rows library ≡ rows.now) × Answered rows.now (Ok tt) × SoundDefinitions rows.now) (λ fault. Answered rows.now (Err fault)) }
 {
     let tally = admit_all(rows)?;
     let listing = Listing {

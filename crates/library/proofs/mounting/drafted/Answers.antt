@@ -26,7 +26,7 @@ pub returns-in-Some : goal.returns-in-Some
 returns-in-Some c =
     let given = c.in_ok-tally.ensures.tally_or_first_fault in
     let found = found_through c.args.rows.now _ _ c.deref.ensures.value c.in_ok-term_facts.ensures.facts_or_first_fault in
-    answered c.args.rows.now (Err c.fault_of_row.result) (refused_by c.args.rows.now given.0 _ _ found c.in-Some.place (sym c.in-Some.ensures.first_place) _ c.fault_of_row.ensures.fault_at_line)
+    record { library_or_first_fault = answered c.args.rows.now (Err c.fault_of_row.result) (refused_by c.args.rows.now given.0 _ _ found c.in-Some.place (sym c.in-Some.ensures.all_before_stand) _ c.fault_of_row.ensures.fault_at_line) }
 
 pub invariant_of-result : goal.invariant_of-result
 invariant_of-result c =
@@ -35,7 +35,7 @@ invariant_of-result c =
     let found = found_through c.args.rows.now _ _ c.deref.ensures.value facts in
     let same : vec_items c.in_ok-to_vec.field-0 ≡ c.args.rows.now = c.in_ok-to_vec.ensures.items_if_clones_equal (λ x y e. e) in
     record {
-      well_typed = subst WellTyped (sym same) (granted_all c.args.rows.now given.0 _ _ found (sym c.in_default.ensures.first_place));
+      well_typed = subst WellTyped (sym same) (granted_all c.args.rows.now given.0 _ _ found (sym c.in_default.ensures.all_before_stand));
       counted = subst (λ rs. CountsOf rs c.in_ok-tally.tally.counts) (sym same) given.1.counts;
       leaves = subst (λ rs. LeavesBy rs c.in_ok-tally.tally.leaves) (sym same) given.1.type_leaves;
       typed = subst (λ rs. TypedBy rs (type_numbers (vec_items c.in_ok-term_facts.term_facts))) (sym same) facts.0;
@@ -45,14 +45,18 @@ invariant_of-result c =
 pub returns : goal.returns
 returns c =
     let given = c.in_ok-tally.ensures.tally_or_first_fault in
-    let found = found_through c.args.rows.now _ _ c.deref.ensures.value c.in_ok-term_facts.ensures.facts_or_first_fault in (
-      c.in_ok-to_vec.ensures.items_if_clones_equal (λ x y e. e),
-      answered c.args.rows.now (Ok tt) (granted_all c.args.rows.now given.0 _ _ found (sym c.in_default.ensures.first_place)),
-      granted_definitions c.args.rows.now given.0 _ _ found (sym c.in_default.ensures.first_place),
-    )
+    let found = found_through c.args.rows.now _ _ c.deref.ensures.value c.in_ok-term_facts.ensures.facts_or_first_fault in
+    record {
+      library_or_first_fault = (
+        c.in_ok-to_vec.ensures.items_if_clones_equal (λ x y e. e),
+        answered c.args.rows.now (Ok tt) (granted_all c.args.rows.now given.0 _ _ found (sym c.in_default.ensures.all_before_stand)),
+        granted_definitions c.args.rows.now given.0 _ _ found (sym c.in_default.ensures.all_before_stand),
+      );
+    }
 
 pub returns-in_err-tally : goal.returns-in_err-tally
-returns-in_err-tally c = answered_exit c.args.rows.now _ _ _ c.from_residual.ensures.1 c.in_err-tally.ensures.tally_or_first_fault
+returns-in_err-tally c = record { library_or_first_fault = answered_exit c.args.rows.now _ _ _ c.from_residual.ensures.1 c.in_err-tally.ensures.tally_or_first_fault }
 
 pub returns-in_err-term_facts : goal.returns-in_err-term_facts
-returns-in_err-term_facts c = answered_exit c.args.rows.now _ _ _ c.from_residual-in_err-term_facts.ensures.1 c.in_err-term_facts.ensures.facts_or_first_fault
+returns-in_err-term_facts c =
+    record { library_or_first_fault = answered_exit c.args.rows.now _ _ _ c.from_residual-in_err-term_facts.ensures.1 c.in_err-term_facts.ensures.facts_or_first_fault }
