@@ -1,28 +1,28 @@
 -- What follows where all terms are typed. Assumes nothing.
-use Rattle.std.proofs.Common.{◌≡◌, ℕ, ◌+◌, ◌<◌, true, false, List, length, Some, Err, sym, refl, ap, ◌∙◌, subst, arith}
-use Rattle.std.specs.List.{slice_get}
+use Rattle.std.proofs.lemmas.Option.{same_Some}
+use Rattle.std.proofs.Common.{◌≡◌, ℕ, zero, suc, ◌+◌, ◌^◌, ◌<◌, [], ◌∷◌, true, false, List, length, not, Some, None, Err, sym, refl, ◌∙◌, subst, arith}
+use Rattle.std.specs.List.{position, slice_get}
 use Rattle.faults.specs.declared.TypingFault.TheVariants.{Definition}
 use Rattle.rows.specs.declared.forms.Row.{Row}
 use Rattle.rows.specs.declared.forms.Section.TheVariants.{Terms}
 use Rattle.rows.specs.Faults.{Faultless}
-use Rattle.library.specs.Listing.{section_rows, global_type_at}
-use Rattle.library.proofs.Lists.{some_same}
+use Rattle.library.specs.Listing.{section_rows}
+use Rattle.library.proofs.Lists.{all_pass, first_fails}
 use Rattle.faults.specs.declared.LibraryFault.TheVariants.{Typing}
-use Rattle.rows.specs.declared.forms.MethodForm.{MethodForm}
-use Rattle.rows.specs.declared.forms.Row.TheVariants.{Method as MethodRow, Global as GlobalRow}
-use Rattle.rows.specs.declared.forms.Section.TheVariants.{Methods, Globals}
 use Rattle.library.specs.declared.refusal.MountFault.{MountFault}
 use Rattle.library.specs.declared.refusal.MountFault.TheVariants.{Refused}
-use Rattle.library.specs.Definitions.{GlobalRule, MethodRule, SoundDefinitions}
+use Rattle.library.specs.Definitions.{SoundDefinitions}
+use Rattle.library.specs.declared.facts.TermFacts.{TermFacts}
+use Rattle.library.specs.Facts.{free_sets, type_numbers}
+use Rattle.std.proofs.lemmas.List.{length-map}
 use Rattle.library.specs.Inference.{TypedBy}
 use Rattle.library.specs.Judging.{stands}
-use Rattle.library.specs.Listing.{global_term_at, global_term_of, method_at}
 use Rattle.library.specs.Mounting.{Mounts, WellTyped}
 use Rattle.library.specs.Scopes.{ScopedBy, Words}
-use Rattle.library.proofs.Sorted.{global_type_row, method_row, origin}
+use Rattle.library.proofs.Held.{sound_definitions}
 use Rattle.library.proofs.Inferring.{Known}
 use Rattle.library.proofs.Tables.{known_all}
-use Rattle.library.proofs.Judged.{global_kept, method_kept, stands_not, stands_right}
+use Rattle.library.proofs.Judged.{stands_not, stands_right}
 use Rattle.library.proofs.Trials.{all_fine, definition_first}
 
 module _ (rows : List Row) (fine : Faultless rows) (known sets : List ℕ) (typed : TypedBy rows known) (long : length known ≡ length (section_rows Terms rows)) (scoped : ScopedBy rows sets) (all : length sets ≡ length (section_rows Terms rows)) (small : Words sets) where
@@ -39,22 +39,6 @@ module _ (rows : List Row) (fine : Faultless rows) (known sets : List ℕ) (type
     pub well_typed : WellTyped rows
     well_typed = all_fine rows fine known each long (λ j r h. stands_right rows fine known sets each scoped long all small r (kept j r h))
 
-    method_sound : (m : ℕ) (form : MethodForm) → method_at rows m ≡ Some form → MethodRule rows form
-    method_sound m form e =
-        let r = method_row (slice_get (section_rows Methods rows) m) form e in
-        let o = origin Methods rows m (MethodRow r.0 form) r.1 in
-        method_kept rows fine known sets each scoped long all small form (kept o.index (MethodRow r.0 form) o.at)
-
-    global_sound : (g n t : ℕ) → global_type_at rows g ≡ Some n → global_term_at rows g ≡ Some t → GlobalRule rows n t
-    global_sound g n t e h =
-        let r = global_type_row (slice_get (section_rows Globals rows) g) n e in
-        let same : r.1 ≡ t = some_same (sym (ap global_term_of r.2) ∙ h) in
-        let o = origin Globals rows g (GlobalRow r.0 n r.1) r.2 in
-        subst (GlobalRule rows n) same (global_kept rows fine known sets each scoped long all small n r.1 (kept o.index (GlobalRow r.0 n r.1) o.at))
-
-    pub sound_definitions : SoundDefinitions rows
-    sound_definitions = record { methods = method_sound; globals = global_sound }
-
 -- the same where what is known is read through a slice
 pub record Found (rows : List Row) (known sets : List ℕ) : Type 0 where
   pub typed : TypedBy rows known
@@ -63,16 +47,28 @@ pub record Found (rows : List Row) (known sets : List ℕ) : Type 0 where
   pub all : length sets ≡ length (section_rows Terms rows)
   pub small : Words sets
 
-pub found_through : (rows : List Row) (known sets seen read : List ℕ) → seen ≡ known → read ≡ sets → TypedBy rows known × (length known ≡ length (section_rows Terms rows)) → ScopedBy rows sets × (length sets ≡ length (section_rows Terms rows)) × Words sets → Found rows seen read
-found_through rows known sets seen read e f t s =
-    subst (λ ks. Found rows ks read) (sym e) (subst (λ ss. Found rows known ss) (sym f) (record { typed = t.0; long = t.1; scoped = s.0; all = s.1; small = s.2 }))
+-- each set of variables fits a word
+words : (known : List TermFacts) → Words (free_sets known)
+words [] t set e = cc
+words (facts ∷ known) zero set e = subst (λ n. n < 2 ^ 64) (same_Some _ _ e) facts.free.word
+words (facts ∷ known) (suc t) set e = words known t set e
+
+pub found_through : (rows : List Row) (known seen : List TermFacts) → seen ≡ known → TypedBy rows (type_numbers known) × ScopedBy rows (free_sets known) × (length known ≡ length (section_rows Terms rows)) → Found rows (type_numbers seen) (free_sets seen)
+found_through rows known seen same found =
+    subst (λ facts. Found rows (type_numbers facts) (free_sets facts)) (sym same) (record { typed = found.0; long = length-map known _ ∙ found.2; scoped = found.1; all = length-map known _ ∙ found.2; small = words known })
 
 module _ (rows : List Row) (fine : Faultless rows) (known sets : List ℕ) (h : Found rows known sets) where
-  pub refused_by : (i : ℕ) → ((j : ℕ) (row : Row) → j < i → slice_get rows j ≡ Some row → stands rows known sets row ≡ true) × ((row : Row) × (slice_get rows i ≡ Some row) × (stands rows known sets row ≡ false)) → (told : MountFault) → told ≡ Refused (record { place = i + 1; fault = Typing Definition }) → Mounts rows (Err told)
-  refused_by i b told e = definition_refused rows fine known sets h.typed h.long h.scoped h.all h.small i b.0 b.1.0 b.1.1 b.1.2 told e
+  pub refused_by : (i : ℕ) → position (λ row. not (stands rows known sets row)) rows ≡ Some i → (told : MountFault) → told ≡ Refused (record { place = i + 1; fault = Typing Definition }) → Mounts rows (Err told)
+  refused_by i found told e =
+      let b = first_fails (stands rows known sets) rows i found in
+      definition_refused rows fine known sets h.typed h.long h.scoped h.all h.small i b.0 b.1.0 b.1.1 b.1.2 told e
 
   pub granted_rows : ((j : ℕ) (row : Row) → slice_get rows j ≡ Some row → stands rows known sets row ≡ true) → WellTyped rows
   granted_rows kept = well_typed rows fine known sets h.typed h.long h.scoped h.all h.small kept
 
-  pub granted_definitions : ((j : ℕ) (row : Row) → slice_get rows j ≡ Some row → stands rows known sets row ≡ true) → SoundDefinitions rows
-  granted_definitions kept = sound_definitions rows fine known sets h.typed h.long h.scoped h.all h.small kept
+  module _ (none : position (λ row. not (stands rows known sets row)) rows ≡ None) where
+    pub granted_all : WellTyped rows
+    granted_all = granted_rows (all_pass (stands rows known sets) rows none)
+
+    pub granted_definitions : SoundDefinitions rows
+    granted_definitions = sound_definitions rows granted_all known h.typed h.long

@@ -1,4 +1,5 @@
 -- The type that is found for a term is the type that it has. Assumes nothing.
+use Rattle.std.proofs.lemmas.Option.{none-some, same_Some}
 use Rattle.std.proofs.Common.{◌≡◌, ℕ, ◌<◌, Bool, true, false, cond, ◌&&◌, List, length, get_or, Some, None, Ok, Err, Option, sym, refl, ap, ◌∙◌, subst, arith, eq-eqb, true-eqb}
 use Rattle.std.specs.List.{slice_get}
 use Rattle.std.proofs.lemmas.Option.{slice_get-get_or}
@@ -14,7 +15,7 @@ use Rattle.rows.specs.Types.{Tree, unit, int, pair, fun, tree, types}
 use Rattle.rows.specs.Faults.{Faultless}
 use Rattle.library.specs.Listing.{section_rows, type_form_at, variable_type_at, method_type_at, global_type_at}
 use Rattle.library.specs.Typing.{TermIs, HasType, unit_rule, num_rule, var_rule, meth_rule, get_rule, lam_rule, set_rule, op_rule, pair_rule, fst_rule, snd_rule, app_rule, if_rule, let_rule, assert_rule}
-use Rattle.library.proofs.Lists.{none_some, some_same, nth_inside, nth_there}
+use Rattle.library.proofs.Lists.{nth_inside, nth_there}
 use Rattle.library.specs.declared.wanted.Wanted.{Wanted}
 use Rattle.library.specs.declared.wanted.Wanted.TheVariants.{Number, Form}
 use Rattle.library.specs.Inference.{number_of_form, by_number, function_of, pair_of, same_number, form_named, first_part, second_part, result_for, is_int, wanted, listed, settled, type_of}
@@ -26,55 +27,55 @@ use Rattle.library.proofs.Numbered.{listed_as, named_at, tree_once, same_tree_fo
 
 -- what follows from a type that is wanted
 number_said : (o : Option ℕ) (w : Wanted) → by_number o ≡ Some w → (n : ℕ) × (o ≡ Some n) × (w ≡ Number n)
-number_said None w e = absurd (none_some e)
-number_said (Some n) w e = (n, refl, sym (some_same e))
+number_said None w e = cc
+number_said (Some n) w e = (n, refl, cc)
 
 function_said : (o p : Option ℕ) (w : Wanted) → function_of o p ≡ Some w → (a : ℕ) × (b : ℕ) × (o ≡ Some a) × (p ≡ Some b) × (w ≡ Form (FunType a b))
-function_said None p w e = absurd (none_some e)
-function_said (Some a) None w e = absurd (none_some e)
-function_said (Some a) (Some b) w e = (a, b, refl, refl, sym (some_same e))
+function_said None p w e = cc
+function_said (Some a) None w e = cc
+function_said (Some a) (Some b) w e = (a, b, refl, refl, cc)
 
 pair_said : (o p : Option ℕ) (w : Wanted) → pair_of o p ≡ Some w → (a : ℕ) × (b : ℕ) × (o ≡ Some a) × (p ≡ Some b) × (w ≡ Form (PairType a b))
-pair_said None p w e = absurd (none_some e)
-pair_said (Some a) None w e = absurd (none_some e)
-pair_said (Some a) (Some b) w e = (a, b, refl, refl, sym (some_same e))
+pair_said None p w e = cc
+pair_said (Some a) None w e = cc
+pair_said (Some a) (Some b) w e = (a, b, refl, refl, cc)
 
 kept_said : (b : Bool) (o : Option Wanted) (w : Wanted) → cond b o None ≡ Some w → (b ≡ true) × (o ≡ Some w)
 kept_said true o w e = (refl, e)
-kept_said false o w e = absurd (none_some e)
+kept_said false o w e = cc
 
 pub same_said : (o p : Option ℕ) → same_number o p ≡ true → (n : ℕ) × (o ≡ Some n) × (p ≡ Some n)
-same_said None p e = let z : ◌≡◌ {A = ℕ} 0 1 = cc in absurd (omega arith)
-same_said (Some a) None e = let z : ◌≡◌ {A = ℕ} 0 1 = cc in absurd (omega arith)
+same_said None p e = cc
+same_said (Some a) None e = cc
 same_said (Some a) (Some b) e = (a, refl, ap Some (sym (true-eqb a b (sym e))))
 
 first_said : (o : Option TypeForm) (w : Wanted) → first_part o ≡ Some w → (a : ℕ) × (b : ℕ) × (o ≡ Some (PairType a b)) × (w ≡ Number a)
-first_said None w e = absurd (none_some e)
-first_said (Some UnitType) w e = absurd (none_some e)
-first_said (Some IntType) w e = absurd (none_some e)
-first_said (Some (PairType a b)) w e = (a, b, refl, sym (some_same e))
-first_said (Some (FunType a b)) w e = absurd (none_some e)
+first_said None w e = cc
+first_said (Some UnitType) w e = cc
+first_said (Some IntType) w e = cc
+first_said (Some (PairType a b)) w e = (a, b, refl, cc)
+first_said (Some (FunType a b)) w e = cc
 
 second_said : (o : Option TypeForm) (w : Wanted) → second_part o ≡ Some w → (a : ℕ) × (b : ℕ) × (o ≡ Some (PairType a b)) × (w ≡ Number b)
-second_said None w e = absurd (none_some e)
-second_said (Some UnitType) w e = absurd (none_some e)
-second_said (Some IntType) w e = absurd (none_some e)
-second_said (Some (PairType a b)) w e = (a, b, refl, sym (some_same e))
-second_said (Some (FunType a b)) w e = absurd (none_some e)
+second_said None w e = cc
+second_said (Some UnitType) w e = cc
+second_said (Some IntType) w e = cc
+second_said (Some (PairType a b)) w e = (a, b, refl, cc)
+second_said (Some (FunType a b)) w e = cc
 
 result_said : (p : Option ℕ) (o : Option TypeForm) (w : Wanted) → result_for p o ≡ Some w → (a : ℕ) × (b : ℕ) × (o ≡ Some (FunType a b)) × (p ≡ Some a) × (w ≡ Number b)
-result_said p None w e = absurd (none_some e)
-result_said p (Some UnitType) w e = absurd (none_some e)
-result_said p (Some IntType) w e = absurd (none_some e)
-result_said p (Some (PairType a b)) w e = absurd (none_some e)
+result_said p None w e = cc
+result_said p (Some UnitType) w e = cc
+result_said p (Some IntType) w e = cc
+result_said p (Some (PairType a b)) w e = cc
 result_said p (Some (FunType a b)) w e =
     let k = kept_said (same_number (Some a) p) (Some (Number b)) w e in
     let s = same_said (Some a) p k.0 in
-    (a, b, refl, s.2 ∙ sym s.1, sym (some_same k.1))
+    (a, b, refl, s.2 ∙ sym s.1, sym (same_Some _ _ k.1))
 
 module _ (rows : List Row) (fine : Faultless rows) where
   named_said : (o : Option ℕ) (f : TypeForm) → form_named rows o ≡ Some f → (n : ℕ) × (o ≡ Some n) × (type_form_at rows n ≡ Some f)
-  named_said None f e = absurd (none_some e)
+  named_said None f e = cc
   named_said (Some n) f e = (n, refl, e)
 
   pub int_said : (o : Option ℕ) → is_int rows o ≡ true → (n : ℕ) × (o ≡ Some n) × (slice_get (types rows) n ≡ Some int)
@@ -101,11 +102,11 @@ module _ (rows : List Row) (fine : Faultless rows) where
     part_has : (j k : ℕ) (A : Tree) → slice_get known j ≡ Some k → slice_get (types rows) k ≡ Some A → HasType rows j A
     part_has j k A e g =
         let p = each j k e in
-        subst (HasType rows j) (some_same (sym p.1 ∙ g)) p.2
+        subst (HasType rows j) (same_Some _ _ (sym p.1 ∙ g)) p.2
 
     pub sound : (t : ℕ) (form : TermForm) (w : Wanted) → TermIs rows t form → wanted rows known form ≡ Some w → (A : Tree) × Wants w A × HasType rows t A
-    sound t UnitTerm w h e = subst (λ v. (A : Tree) × Wants v A × HasType rows t A) (some_same e) (unit, (tt, refl), unit_rule h)
-    sound t (Num i) w h e = subst (λ v. (A : Tree) × Wants v A × HasType rows t A) (some_same e) (int, (tt, refl), num_rule h)
+    sound t UnitTerm w h e = subst (λ v. (A : Tree) × Wants v A × HasType rows t A) (same_Some _ _ e) (unit, (tt, refl), unit_rule h)
+    sound t (Num i) w h e = subst (λ v. (A : Tree) × Wants v A × HasType rows t A) (same_Some _ _ e) (int, (tt, refl), num_rule h)
     sound t (Var x) w h e =
         let s = number_said (variable_type_at rows x) w e in
         let a = nth_there (types rows) s.0 (variable_below rows fine x s.0 s.1) in
@@ -124,29 +125,29 @@ module _ (rows : List Row) (fine : Faultless rows) where
         let p = each a s.1 s.3 in
         let i = nth_inside (types rows) s.0 u.0 u.1 in
         let j = nth_inside (types rows) s.1 p.0 p.1 in
-        let x' : u.0 ≡ get_or (types rows) s.0 unit = some_same (sym u.1 ∙ slice_get-get_or (types rows) s.0 unit i) in
-        let y' : p.0 ≡ get_or (types rows) s.1 unit = some_same (sym p.1 ∙ slice_get-get_or (types rows) s.1 unit j) in
+        let x' : u.0 ≡ get_or (types rows) s.0 unit = same_Some _ _ (sym u.1 ∙ slice_get-get_or (types rows) s.0 unit i) in
+        let y' : p.0 ≡ get_or (types rows) s.1 unit = same_Some _ _ (sym p.1 ∙ slice_get-get_or (types rows) s.1 unit j) in
         let z : fun u.0 p.0 ≡ fun (get_or (types rows) s.0 unit) (get_or (types rows) s.1 unit) = cc in
         subst (λ v. (A : Tree) × Wants v A × HasType rows t A) (sym s.4) (fun u.0 p.0, ((i, j), z), lam_rule h (record { number = s.0; is = s.2; named = u.1 }) p.2)
     sound t (Set r a) w h e =
         let k = kept_said (same_number (global_type_at rows r) (slice_get known a)) (Some (Form UnitType)) w e in
         let s = same_said (global_type_at rows r) (slice_get known a) k.0 in
         let p = each a s.0 s.2 in
-        subst (λ v. (A : Tree) × Wants v A × HasType rows t A) (some_same k.1) (unit, (tt, refl), set_rule h (record { number = s.0; is = s.1; named = p.1 }) p.2)
+        subst (λ v. (A : Tree) × Wants v A × HasType rows t A) (same_Some _ _ k.1) (unit, (tt, refl), set_rule h (record { number = s.0; is = s.1; named = p.1 }) p.2)
     sound t (Op o a b) w h e =
         let k = kept_said (is_int rows (slice_get known a) && is_int rows (slice_get known b)) (Some (Form IntType)) w e in
         let q = and_parts (is_int rows (slice_get known a)) (is_int rows (slice_get known b)) k.0 in
         let x = int_said (slice_get known a) q.0 in
         let y = int_said (slice_get known b) q.1 in
-        subst (λ v. (A : Tree) × Wants v A × HasType rows t A) (some_same k.1) (int, (tt, refl), op_rule h (part_has a x.0 int x.1 x.2) (part_has b y.0 int y.1 y.2))
+        subst (λ v. (A : Tree) × Wants v A × HasType rows t A) (same_Some _ _ k.1) (int, (tt, refl), op_rule h (part_has a x.0 int x.1 x.2) (part_has b y.0 int y.1 y.2))
     sound t (Pair a b) w h e =
         let s = pair_said (slice_get known a) (slice_get known b) w e in
         let u = each a s.0 s.2 in
         let p = each b s.1 s.3 in
         let i = nth_inside (types rows) s.0 u.0 u.1 in
         let j = nth_inside (types rows) s.1 p.0 p.1 in
-        let x' : u.0 ≡ get_or (types rows) s.0 unit = some_same (sym u.1 ∙ slice_get-get_or (types rows) s.0 unit i) in
-        let y' : p.0 ≡ get_or (types rows) s.1 unit = some_same (sym p.1 ∙ slice_get-get_or (types rows) s.1 unit j) in
+        let x' : u.0 ≡ get_or (types rows) s.0 unit = same_Some _ _ (sym u.1 ∙ slice_get-get_or (types rows) s.0 unit i) in
+        let y' : p.0 ≡ get_or (types rows) s.1 unit = same_Some _ _ (sym p.1 ∙ slice_get-get_or (types rows) s.1 unit j) in
         let z : pair u.0 p.0 ≡ pair (get_or (types rows) s.0 unit) (get_or (types rows) s.1 unit) = cc in
         subst (λ v. (A : Tree) × Wants v A × HasType rows t A) (sym s.4) (pair u.0 p.0, ((i, j), z), pair_rule h u.2 p.2)
     sound t (Fst a) w h e =
@@ -180,7 +181,7 @@ module _ (rows : List Row) (fine : Faultless rows) where
         let s = same_said (slice_get known a) (slice_get known b) q.1 in
         let n = number_said (slice_get known a) w k.1 in
         let p = each a s.0 s.1 in
-        let m : w ≡ Number s.0 = n.2 ∙ ap Number (some_same (sym n.1 ∙ s.1)) in
+        let m : w ≡ Number s.0 = n.2 ∙ ap Number (same_Some _ _ (sym n.1 ∙ s.1)) in
         subst (λ v. (A : Tree) × Wants v A × HasType rows t A) (sym m) (p.0, p.1, if_rule h (part_has c x.0 int x.1 x.2) p.2 (part_has b s.0 p.0 s.2 p.1))
     sound t (Let x a b) w h e =
         let k = kept_said (same_number (variable_type_at rows x) (slice_get known a)) (by_number (slice_get known b)) w e in
@@ -192,7 +193,7 @@ module _ (rows : List Row) (fine : Faultless rows) where
     sound t (Assert a) w h e =
         let k = kept_said (is_int rows (slice_get known a)) (Some (Form UnitType)) w e in
         let x = int_said (slice_get known a) k.0 in
-        subst (λ v. (A : Tree) × Wants v A × HasType rows t A) (some_same k.1) (unit, (tt, refl), assert_rule h (part_has a x.0 int x.1 x.2))
+        subst (λ v. (A : Tree) × Wants v A × HasType rows t A) (same_Some _ _ k.1) (unit, (tt, refl), assert_rule h (part_has a x.0 int x.1 x.2))
 
     -- a part that has a type has its number
     part_known : (t j : ℕ) (A : Tree) → length known ≡ t → j < t → HasType rows j A → (k : ℕ) × (slice_get known j ≡ Some k) × (slice_get (types rows) k ≡ Some A)
@@ -301,7 +302,7 @@ module _ (rows : List Row) (fine : Faultless rows) where
       found n e = step (wanted rows known form) refl e
         where
           place : (f : TypeForm) (o : Option ℕ) → number_of_form rows f ≡ o → wanted rows known form ≡ Some (Form f) → listed o ≡ Ok n → (A : Tree) × (slice_get (types rows) n ≡ Some A) × HasType rows t A
-          place f None q g h = let z : ◌≡◌ {A = ℕ} 0 1 = cc in absurd (omega arith)
+          place f None q g h = cc
           place f (Some m) q g h =
               let same : m ≡ n = cc in
               let s = sound t form (Form f) is g in
@@ -309,7 +310,7 @@ module _ (rows : List Row) (fine : Faultless rows) where
               (s.0, ap (slice_get (types rows)) (sym same) ∙ at ∙ ap Some (sym s.1.1), s.2)
 
           step : (o : Option Wanted) → wanted rows known form ≡ o → settled rows o ≡ Ok n → (A : Tree) × (slice_get (types rows) n ≡ Some A) × HasType rows t A
-          step None q h = let z : ◌≡◌ {A = ℕ} 0 1 = cc in absurd (omega arith)
+          step None q h = cc
           step (Some (Number m)) q h =
               let same : m ≡ n = cc in
               let s = sound t form (Number m) is q in
@@ -320,12 +321,12 @@ module _ (rows : List Row) (fine : Faultless rows) where
       no_type long e A d = step (wanted rows known form) refl e
         where
           place : (o : Option ℕ) → listed o ≡ Err Parts → ⊥
-          place None h = let z : ◌≡◌ {A = ℕ} 0 1 = cc in omega arith
-          place (Some m) h = let z : ◌≡◌ {A = ℕ} 0 1 = cc in omega arith
+          place None h = cc
+          place (Some m) h = cc
 
           step : (o : Option Wanted) → wanted rows known form ≡ o → settled rows o ≡ Err Parts → ⊥
-          step None q h = let c = complete t form A long is d in none_some (sym q ∙ c.1)
-          step (Some (Number m)) q h = let z : ◌≡◌ {A = ℕ} 0 1 = cc in omega arith
+          step None q h = let c = complete t form A long is d in none-some _ (sym q ∙ c.1)
+          step (Some (Number m)) q h = cc
           step (Some (Form f)) q h = place (number_of_form rows f) h
 
       pub unlisted_type : type_of rows known form ≡ Err Unlisted → TypeUnlisted rows t
@@ -335,21 +336,21 @@ module _ (rows : List Row) (fine : Faultless rows) where
           place f None q g h =
               let s = sound t form (Form f) is g in
               record { type = s.0; typed = s.2; unlisted = unlisted_form f s.0 s.1.0 s.1.1 q }
-          place f (Some m) q g h = let z : ◌≡◌ {A = ℕ} 0 1 = cc in absurd (omega arith)
+          place f (Some m) q g h = cc
 
           step : (o : Option Wanted) → wanted rows known form ≡ o → settled rows o ≡ Err Unlisted → TypeUnlisted rows t
-          step None q h = let z : ◌≡◌ {A = ℕ} 0 1 = cc in absurd (omega arith)
-          step (Some (Number m)) q h = let z : ◌≡◌ {A = ℕ} 0 1 = cc in absurd (omega arith)
+          step None q h = cc
+          step (Some (Number m)) q h = cc
           step (Some (Form f)) q h = place f (number_of_form rows f) refl q h
 
       pub no_definition : type_of rows known form ≡ Err Definition → ⊥
       no_definition e = step (wanted rows known form) e
         where
           place : (o : Option ℕ) → listed o ≡ Err Definition → ⊥
-          place None h = let z : ◌≡◌ {A = ℕ} 0 1 = cc in omega arith
-          place (Some m) h = let z : ◌≡◌ {A = ℕ} 0 1 = cc in omega arith
+          place None h = cc
+          place (Some m) h = cc
 
           step : (o : Option Wanted) → settled rows o ≡ Err Definition → ⊥
-          step None h = let z : ◌≡◌ {A = ℕ} 0 1 = cc in omega arith
-          step (Some (Number m)) h = let z : ◌≡◌ {A = ℕ} 0 1 = cc in omega arith
+          step None h = cc
+          step (Some (Number m)) h = cc
           step (Some (Form f)) h = place (number_of_form rows f) h

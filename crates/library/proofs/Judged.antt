@@ -1,7 +1,8 @@
 -- The rules for methods and globals are kept where they are found to be kept. Assumes nothing.
-use Rattle.std.proofs.Common.{◌≡◌, ℕ, ◌^◌, ◌<◌, Bool, true, false, ◌&&◌, ◌||◌, ◌⊎◌, List, length, get_or, ℤ, Some, None, Option, sym, refl, ap, ◌∙◌, subst, inl, inr, ⊎_elim, arith, eq-eqb}
+use Rattle.std.proofs.lemmas.Option.{same_Some}
+use Rattle.std.proofs.Common.{◌≡◌, ℕ, ◌^◌, ◌<◌, true, false, ◌&&◌, List, length, get_or, ℤ, Some, None, Option, sym, refl, ap, ◌∙◌, subst, inl, inr, ⊎_elim, arith, eq-eqb}
 use Rattle.std.specs.List.{slice_get}
-use Rattle.std.proofs.lemmas.Bool.{and_parts, and_from}
+use Rattle.std.proofs.lemmas.Bool.{and_parts, and_from, or_cases, or_left, or_right}
 use Rattle.faults.specs.declared.TypingFault.TheVariants.{Definition}
 use Rattle.rows.specs.declared.forms.TypeForm.{TypeForm}
 use Rattle.rows.specs.declared.forms.TypeForm.TheVariants.{Unit as UnitType, Int as IntType, Pair as PairType, Fun as FunType}
@@ -13,7 +14,7 @@ use Rattle.rows.specs.Types.{unit, fun, types}
 use Rattle.rows.specs.Faults.{Faultless}
 use Rattle.library.specs.Listing.{section_rows, type_form_at, term_at}
 use Rattle.library.specs.Typing.{HasType}
-use Rattle.library.proofs.Lists.{some_same, nth_there}
+use Rattle.library.proofs.Lists.{nth_there}
 use Rattle.rows.specs.declared.forms.MethodForm.{MethodForm}
 use Rattle.rows.specs.declared.forms.MethodForm.TheVariants.{Abstract, Public, Private}
 use Rattle.rows.specs.declared.forms.Row.TheVariants.{«Type» as TypeRow, Variable as VariableRow, Method as MethodRow, Global as GlobalRow, Term as TermRow}
@@ -29,58 +30,47 @@ use Rattle.library.proofs.Inferring.{Known, int_said, int_told, same_said}
 use Rattle.library.proofs.Scoping.{closed_empty, closed_told}
 
 pub function_said : (o : Option TypeForm) → is_function o ≡ true → (a : ℕ) × (b : ℕ) × (o ≡ Some (FunType a b))
-function_said None e = let z : ◌≡◌ {A = ℕ} 0 1 = cc in absurd (omega arith)
-function_said (Some UnitType) e = let z : ◌≡◌ {A = ℕ} 0 1 = cc in absurd (omega arith)
-function_said (Some IntType) e = let z : ◌≡◌ {A = ℕ} 0 1 = cc in absurd (omega arith)
-function_said (Some (PairType a b)) e = let z : ◌≡◌ {A = ℕ} 0 1 = cc in absurd (omega arith)
+function_said None e = cc
+function_said (Some UnitType) e = cc
+function_said (Some IntType) e = cc
+function_said (Some (PairType a b)) e = cc
 function_said (Some (FunType a b)) e = (a, b, refl)
 
 pub lam_said : (o : Option TermForm) → is_lam o ≡ true → (x : ℕ) × (a : ℕ) × (o ≡ Some (Lam x a))
-lam_said None e = let z : ◌≡◌ {A = ℕ} 0 1 = cc in absurd (omega arith)
-lam_said (Some UnitTerm) e = let z : ◌≡◌ {A = ℕ} 0 1 = cc in absurd (omega arith)
-lam_said (Some (Num i)) e = let z : ◌≡◌ {A = ℕ} 0 1 = cc in absurd (omega arith)
-lam_said (Some (Var x)) e = let z : ◌≡◌ {A = ℕ} 0 1 = cc in absurd (omega arith)
-lam_said (Some (Meth m)) e = let z : ◌≡◌ {A = ℕ} 0 1 = cc in absurd (omega arith)
-lam_said (Some (Get r)) e = let z : ◌≡◌ {A = ℕ} 0 1 = cc in absurd (omega arith)
+lam_said None e = cc
+lam_said (Some UnitTerm) e = cc
+lam_said (Some (Num i)) e = cc
+lam_said (Some (Var x)) e = cc
+lam_said (Some (Meth m)) e = cc
+lam_said (Some (Get r)) e = cc
 lam_said (Some (Lam x a)) e = (x, a, refl)
-lam_said (Some (Set r a)) e = let z : ◌≡◌ {A = ℕ} 0 1 = cc in absurd (omega arith)
-lam_said (Some (Op o a b)) e = let z : ◌≡◌ {A = ℕ} 0 1 = cc in absurd (omega arith)
-lam_said (Some (Pair a b)) e = let z : ◌≡◌ {A = ℕ} 0 1 = cc in absurd (omega arith)
-lam_said (Some (Fst a)) e = let z : ◌≡◌ {A = ℕ} 0 1 = cc in absurd (omega arith)
-lam_said (Some (Snd a)) e = let z : ◌≡◌ {A = ℕ} 0 1 = cc in absurd (omega arith)
-lam_said (Some (App f a)) e = let z : ◌≡◌ {A = ℕ} 0 1 = cc in absurd (omega arith)
-lam_said (Some (If c a b)) e = let z : ◌≡◌ {A = ℕ} 0 1 = cc in absurd (omega arith)
-lam_said (Some (Let x a b)) e = let z : ◌≡◌ {A = ℕ} 0 1 = cc in absurd (omega arith)
-lam_said (Some (Assert a)) e = let z : ◌≡◌ {A = ℕ} 0 1 = cc in absurd (omega arith)
+lam_said (Some (Set r a)) e = cc
+lam_said (Some (Op o a b)) e = cc
+lam_said (Some (Pair a b)) e = cc
+lam_said (Some (Fst a)) e = cc
+lam_said (Some (Snd a)) e = cc
+lam_said (Some (App f a)) e = cc
+lam_said (Some (If c a b)) e = cc
+lam_said (Some (Let x a b)) e = cc
+lam_said (Some (Assert a)) e = cc
 
 pub num_said : (o : Option TermForm) → is_num o ≡ true → (i : ℤ) × (o ≡ Some (Num i))
-num_said None e = let z : ◌≡◌ {A = ℕ} 0 1 = cc in absurd (omega arith)
-num_said (Some UnitTerm) e = let z : ◌≡◌ {A = ℕ} 0 1 = cc in absurd (omega arith)
+num_said None e = cc
+num_said (Some UnitTerm) e = cc
 num_said (Some (Num i)) e = (i, refl)
-num_said (Some (Var x)) e = let z : ◌≡◌ {A = ℕ} 0 1 = cc in absurd (omega arith)
-num_said (Some (Meth m)) e = let z : ◌≡◌ {A = ℕ} 0 1 = cc in absurd (omega arith)
-num_said (Some (Get r)) e = let z : ◌≡◌ {A = ℕ} 0 1 = cc in absurd (omega arith)
-num_said (Some (Lam x a)) e = let z : ◌≡◌ {A = ℕ} 0 1 = cc in absurd (omega arith)
-num_said (Some (Set r a)) e = let z : ◌≡◌ {A = ℕ} 0 1 = cc in absurd (omega arith)
-num_said (Some (Op o a b)) e = let z : ◌≡◌ {A = ℕ} 0 1 = cc in absurd (omega arith)
-num_said (Some (Pair a b)) e = let z : ◌≡◌ {A = ℕ} 0 1 = cc in absurd (omega arith)
-num_said (Some (Fst a)) e = let z : ◌≡◌ {A = ℕ} 0 1 = cc in absurd (omega arith)
-num_said (Some (Snd a)) e = let z : ◌≡◌ {A = ℕ} 0 1 = cc in absurd (omega arith)
-num_said (Some (App f a)) e = let z : ◌≡◌ {A = ℕ} 0 1 = cc in absurd (omega arith)
-num_said (Some (If c a b)) e = let z : ◌≡◌ {A = ℕ} 0 1 = cc in absurd (omega arith)
-num_said (Some (Let x a b)) e = let z : ◌≡◌ {A = ℕ} 0 1 = cc in absurd (omega arith)
-num_said (Some (Assert a)) e = let z : ◌≡◌ {A = ℕ} 0 1 = cc in absurd (omega arith)
-
-either_said : (a b : Bool) → (a || b) ≡ true → (a ≡ true) ⊎ (b ≡ true)
-either_said true b e = inl refl
-either_said false b e = inr e
-
-either_left : (a b : Bool) → a ≡ true → (a || b) ≡ true
-either_left a b e = ap (λ c. c || b) e
-
-either_right : (a b : Bool) → b ≡ true → (a || b) ≡ true
-either_right true b e = refl
-either_right false b e = e
+num_said (Some (Var x)) e = cc
+num_said (Some (Meth m)) e = cc
+num_said (Some (Get r)) e = cc
+num_said (Some (Lam x a)) e = cc
+num_said (Some (Set r a)) e = cc
+num_said (Some (Op o a b)) e = cc
+num_said (Some (Pair a b)) e = cc
+num_said (Some (Fst a)) e = cc
+num_said (Some (Snd a)) e = cc
+num_said (Some (App f a)) e = cc
+num_said (Some (If c a b)) e = cc
+num_said (Some (Let x a b)) e = cc
+num_said (Some (Assert a)) e = cc
 
 module _ (rows : List Row) (fine : Faultless rows) (known sets : List ℕ) (each : Known rows fine known) (scoped : ScopedBy rows sets) (all_Known : length known ≡ length (section_rows Terms rows)) (all_sets : length sets ≡ length (section_rows Terms rows)) (small : (t s : ℕ) → slice_get sets t ≡ Some s → s < 2 ^ 64) where
   function_kept : (n : ℕ) → is_function (type_form_at rows n) ≡ true → FunctionType rows n
@@ -111,7 +101,7 @@ module _ (rows : List Row) (fine : Faultless rows) (known sets : List ℕ) (each
         variable = l.0;
         body = l.1;
         lam = l.2;
-        typed = subst (HasType rows t) (some_same (sym h.1 ∙ f.named)) h.2;
+        typed = subst (HasType rows t) (same_Some _ _ (sym h.1 ∙ f.named)) h.2;
         closed = closed_empty rows fine sets scoped t empty;
       }
 
@@ -143,11 +133,11 @@ module _ (rows : List Row) (fine : Faultless rows) (known sets : List ℕ) (each
       let p = and_parts (is_int rows (Some n)) (is_num (term_at rows t)) h in
       let i = int_said rows fine (Some n) p.0 in
       let w = num_said (term_at rows t) p.1 in
-      inl (record { int_type = ap (slice_get (types rows)) (some_same i.1) ∙ i.2; word = w.0; num = w.1 })) (λ h. inr (closed_kept n t h)) (either_said (is_int rows (Some n) && is_num (term_at rows t)) (closed_function rows known sets n t) e)
+      inl (record { int_type = ap (slice_get (types rows)) (same_Some _ _ i.1) ∙ i.2; word = w.0; num = w.1 })) (λ h. inr (closed_kept n t h)) (or_cases (is_int rows (Some n) && is_num (term_at rows t)) (closed_function rows known sets n t) e)
 
   global_told : (n t : ℕ) → GlobalRule rows n t → global_stands rows known sets n t ≡ true
   global_told n t =
-      ⊎_elim (λ h. either_left _ _ (and_from _ _ (int_told rows fine n h.int_type) (ap is_num h.num))) (λ h. either_right _ _ (closed_function_told n t h))
+      ⊎_elim (λ h. or_left _ _ (and_from _ _ (int_told rows fine n h.int_type) (ap is_num h.num))) (λ h. or_right _ _ (closed_function_told n t h))
 
   -- a row that is found to keep its rule has no fault of definition, and one that isn't has
   pub stands_right : (row : Row) → stands rows known sets row ≡ true → HasTypingFault rows row Definition → ⊥
@@ -158,8 +148,8 @@ module _ (rows : List Row) (fine : Faultless rows) (known sets : List ℕ) (each
   stands_right (TermRow n f) e h = h
 
   pub stands_not : (row : Row) → stands rows known sets row ≡ false → HasTypingFault rows row Definition
-  stands_not (TypeRow n f) e = let z : ◌≡◌ {A = ℕ} 0 1 = cc in absurd (omega arith)
-  stands_not (VariableRow n t) e = let z : ◌≡◌ {A = ℕ} 0 1 = cc in absurd (omega arith)
-  stands_not (MethodRow n f) e = λ h. let z : true ≡ false = sym (method_told f h) ∙ e in let k : ◌≡◌ {A = ℕ} 0 1 = cc in omega arith
-  stands_not (GlobalRow n t u) e = λ h. let z : true ≡ false = sym (global_told t u h) ∙ e in let k : ◌≡◌ {A = ℕ} 0 1 = cc in omega arith
-  stands_not (TermRow n f) e = let z : ◌≡◌ {A = ℕ} 0 1 = cc in absurd (omega arith)
+  stands_not (TypeRow n f) e = cc
+  stands_not (VariableRow n t) e = cc
+  stands_not (MethodRow n f) e = λ h. let z : true ≡ false = sym (method_told f h) ∙ e in cc
+  stands_not (GlobalRow n t u) e = λ h. let z : true ≡ false = sym (global_told t u h) ∙ e in cc
+  stands_not (TermRow n f) e = cc

@@ -1,4 +1,5 @@
 -- The lemmas that the proofs of this crate share.
+pub mod Mapped
 pub mod Lists
 pub mod Sorted
 pub mod Unique

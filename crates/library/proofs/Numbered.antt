@@ -1,4 +1,5 @@
 -- Types by number: each tree has one number. Assumes nothing.
+use Rattle.std.proofs.lemmas.Option.{same_Some}
 use Rattle.std.proofs.Common.{◌≡◌, ℕ, ◌<◌, List, length, get_or, Some, sym, refl, ap, ◌∙◌, subst, arith}
 use Rattle.std.specs.List.{slice_get}
 use Rattle.std.proofs.lemmas.Option.{slice_get-get_or}
@@ -8,32 +9,32 @@ use Rattle.rows.specs.declared.forms.Row.{Row}
 use Rattle.rows.specs.Types.{Tree, unit, int, pair, fun, tree, types}
 use Rattle.rows.specs.Faults.{Faultless}
 use Rattle.library.specs.Listing.{type_form_at}
-use Rattle.library.proofs.Lists.{some_same, nth_inside}
+use Rattle.library.proofs.Lists.{nth_inside}
 use Rattle.library.proofs.Sorted.{PartsBelow, parts_below_more, type_named, form_there, form_once}
 
 -- which form has a tree
 pub unit_form : (ts : List Tree) (f : TypeForm) → unit ≡ tree ts f → f ≡ UnitType
 unit_form ts UnitType e = refl
-unit_form ts IntType e = let z : ◌≡◌ {A = ℕ} 0 1 = cc in absurd (omega arith)
-unit_form ts (PairType a b) e = let z : ◌≡◌ {A = ℕ} 0 1 = cc in absurd (omega arith)
-unit_form ts (FunType a b) e = let z : ◌≡◌ {A = ℕ} 0 1 = cc in absurd (omega arith)
+unit_form ts IntType e = cc
+unit_form ts (PairType a b) e = cc
+unit_form ts (FunType a b) e = cc
 
 pub int_form : (ts : List Tree) (f : TypeForm) → int ≡ tree ts f → f ≡ IntType
-int_form ts UnitType e = let z : ◌≡◌ {A = ℕ} 0 1 = cc in absurd (omega arith)
+int_form ts UnitType e = cc
 int_form ts IntType e = refl
-int_form ts (PairType a b) e = let z : ◌≡◌ {A = ℕ} 0 1 = cc in absurd (omega arith)
-int_form ts (FunType a b) e = let z : ◌≡◌ {A = ℕ} 0 1 = cc in absurd (omega arith)
+int_form ts (PairType a b) e = cc
+int_form ts (FunType a b) e = cc
 
 pub pair_form : (ts : List Tree) (A B : Tree) (f : TypeForm) → pair A B ≡ tree ts f → (a : ℕ) × (b : ℕ) × (f ≡ PairType a b) × (A ≡ get_or ts a unit) × (B ≡ get_or ts b unit)
-pair_form ts A B UnitType e = let z : ◌≡◌ {A = ℕ} 0 1 = cc in absurd (omega arith)
-pair_form ts A B IntType e = let z : ◌≡◌ {A = ℕ} 0 1 = cc in absurd (omega arith)
+pair_form ts A B UnitType e = cc
+pair_form ts A B IntType e = cc
 pair_form ts A B (PairType a b) e = (a, b, refl, cc, cc)
-pair_form ts A B (FunType a b) e = let z : ◌≡◌ {A = ℕ} 0 1 = cc in absurd (omega arith)
+pair_form ts A B (FunType a b) e = cc
 
 pub fun_form : (ts : List Tree) (A B : Tree) (f : TypeForm) → fun A B ≡ tree ts f → (a : ℕ) × (b : ℕ) × (f ≡ FunType a b) × (A ≡ get_or ts a unit) × (B ≡ get_or ts b unit)
-fun_form ts A B UnitType e = let z : ◌≡◌ {A = ℕ} 0 1 = cc in absurd (omega arith)
-fun_form ts A B IntType e = let z : ◌≡◌ {A = ℕ} 0 1 = cc in absurd (omega arith)
-fun_form ts A B (PairType a b) e = let z : ◌≡◌ {A = ℕ} 0 1 = cc in absurd (omega arith)
+fun_form ts A B UnitType e = cc
+fun_form ts A B IntType e = cc
+fun_form ts A B (PairType a b) e = cc
 fun_form ts A B (FunType a b) e = (a, b, refl, cc, cc)
 
 module _ (rows : List Row) (fine : Faultless rows) where
@@ -49,7 +50,7 @@ module _ (rows : List Row) (fine : Faultless rows) where
       let lt = nth_inside (types rows) n A e in
       let f = form_there rows fine n lt in
       let h = type_named rows fine n f.0 f.1 in
-      record { form = f.0; at = f.1; is = some_same (sym e ∙ h.1); below = parts_below_more n (length (types rows)) f.0 (omega (arith, lt)) h.0 }
+      record { form = f.0; at = f.1; is = same_Some _ _ (sym e ∙ h.1); below = parts_below_more n (length (types rows)) f.0 (omega (arith, lt)) h.0 }
 
   pub named_at : (a : ℕ) (A : Tree) → a < length (types rows) → A ≡ get_or (types rows) a unit → slice_get (types rows) a ≡ Some A
   named_at a A lt e = slice_get-get_or (types rows) a unit lt ∙ ap Some (sym e)

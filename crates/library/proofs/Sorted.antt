@@ -1,8 +1,9 @@
 -- What rows without text fault say of their sections. Assumes nothing.
+use Rattle.std.proofs.lemmas.Option.{same_Some}
 use Rattle.std.proofs.Common.{◌≡◌, ℕ, zero, suc, ◌+◌, ◌<◌, ◌≤◌, Bool, true, false, cond, eqb, List, [], ◌∷◌, ◌++◌, length, get_or, take, drop, Some, None, Option, unwrap_or, sym, refl, ap, ◌∙◌, subst, inl, ⊎_elim, arith, lit<, length-append, eq-eqb, true-eqb}
 use Rattle.std.specs.List.{slice_get, AllByRecursion}
-use Rattle.std.proofs.lemmas.Option.{slice_get-get_or}
-use Rattle.std.proofs.str.Laws.{order}
+use Rattle.std.proofs.lemmas.Option.{slice_get-get_or, unwrap_or-slice_get}
+use Rattle.std.proofs.lemmas.Bool.{cases_eq, cases_lt}
 use Rattle.faults.specs.declared.TextFault.TheVariants.{Order, Reference, Limit, Repeat}
 use Rattle.rows.specs.declared.forms.TypeForm.{TypeForm}
 use Rattle.rows.specs.declared.forms.TypeForm.TheVariants.{Unit as UnitType, Int as IntType, Pair as PairType, Fun as FunType}
@@ -22,65 +23,63 @@ use Rattle.rows.specs.Types.{Tree, unit, tree, types, types_after, with_row}
 use Rattle.rows.specs.Faults.{Faultless, InOrder, RefersBack, RowFault, NoneOf}
 use Rattle.rows.proofs.Admits.{types_count}
 use Rattle.library.specs.Listing.{section_rows, type_form_of, variable_type_of, method_of, method_type, method_type_of, global_type_of, term_of, type_form_at, term_at, variable_type_at, method_type_at, global_type_at}
-use Rattle.library.proofs.Lists.{none_some, some_same, nth_inside, nth_there, nth_left, nth_end, nth_take, getD_nth, parted}
+use Rattle.library.proofs.Lists.{nth_inside, nth_there, nth_left, nth_end, nth_take, parted}
 
 -- which row says it
 pub type_form_row : (o : Option Row) (v : TypeForm) → type_form_of o ≡ Some v → (m : ℕ) × (o ≡ Some (TypeRow m v))
-type_form_row None v e = absurd (none_some e)
-type_form_row (Some (TypeRow n f)) v e = (n, let s : f ≡ v = some_same e in ap (λ g. Some (TypeRow n g)) s)
-type_form_row (Some (VariableRow n t)) v e = absurd (none_some e)
-type_form_row (Some (MethodRow n f)) v e = absurd (none_some e)
-type_form_row (Some (GlobalRow n t u)) v e = absurd (none_some e)
-type_form_row (Some (TermRow n f)) v e = absurd (none_some e)
+type_form_row None v e = cc
+type_form_row (Some (TypeRow n f)) v e = (n, cc)
+type_form_row (Some (VariableRow n t)) v e = cc
+type_form_row (Some (MethodRow n f)) v e = cc
+type_form_row (Some (GlobalRow n t u)) v e = cc
+type_form_row (Some (TermRow n f)) v e = cc
 
 pub variable_row : (o : Option Row) (v : ℕ) → variable_type_of o ≡ Some v → (m : ℕ) × (o ≡ Some (VariableRow m v))
-variable_row None v e = absurd (none_some e)
-variable_row (Some (TypeRow n f)) v e = absurd (none_some e)
-variable_row (Some (VariableRow n t)) v e = (n, let s : t ≡ v = some_same e in ap (λ g. Some (VariableRow n g)) s)
-variable_row (Some (MethodRow n f)) v e = absurd (none_some e)
-variable_row (Some (GlobalRow n t u)) v e = absurd (none_some e)
-variable_row (Some (TermRow n f)) v e = absurd (none_some e)
+variable_row None v e = cc
+variable_row (Some (TypeRow n f)) v e = cc
+variable_row (Some (VariableRow n t)) v e = (n, cc)
+variable_row (Some (MethodRow n f)) v e = cc
+variable_row (Some (GlobalRow n t u)) v e = cc
+variable_row (Some (TermRow n f)) v e = cc
 
 pub method_row : (o : Option Row) (v : MethodForm) → method_of o ≡ Some v → (m : ℕ) × (o ≡ Some (MethodRow m v))
-method_row None v e = absurd (none_some e)
-method_row (Some (TypeRow n f)) v e = absurd (none_some e)
-method_row (Some (VariableRow n t)) v e = absurd (none_some e)
-method_row (Some (MethodRow n f)) v e = (n, let s : f ≡ v = some_same e in ap (λ g. Some (MethodRow n g)) s)
-method_row (Some (GlobalRow n t u)) v e = absurd (none_some e)
-method_row (Some (TermRow n f)) v e = absurd (none_some e)
+method_row None v e = cc
+method_row (Some (TypeRow n f)) v e = cc
+method_row (Some (VariableRow n t)) v e = cc
+method_row (Some (MethodRow n f)) v e = (n, cc)
+method_row (Some (GlobalRow n t u)) v e = cc
+method_row (Some (TermRow n f)) v e = cc
 
 pub method_type_row : (o : Option Row) (v : ℕ) → method_type_of o ≡ Some v → (m : ℕ) × (f : MethodForm) × (o ≡ Some (MethodRow m f)) × (method_type f ≡ v)
-method_type_row None v e = absurd (none_some e)
-method_type_row (Some (TypeRow n f)) v e = absurd (none_some e)
-method_type_row (Some (VariableRow n t)) v e = absurd (none_some e)
-method_type_row (Some (MethodRow n f)) v e = (n, f, refl, some_same e)
-method_type_row (Some (GlobalRow n t u)) v e = absurd (none_some e)
-method_type_row (Some (TermRow n f)) v e = absurd (none_some e)
+method_type_row None v e = cc
+method_type_row (Some (TypeRow n f)) v e = cc
+method_type_row (Some (VariableRow n t)) v e = cc
+method_type_row (Some (MethodRow n f)) v e = (n, f, refl, same_Some _ _ e)
+method_type_row (Some (GlobalRow n t u)) v e = cc
+method_type_row (Some (TermRow n f)) v e = cc
 
 pub global_type_row : (o : Option Row) (v : ℕ) → global_type_of o ≡ Some v → (m : ℕ) × (u : ℕ) × (o ≡ Some (GlobalRow m v u))
-global_type_row None v h = absurd (none_some h)
-global_type_row (Some (TypeRow n f)) v h = absurd (none_some h)
-global_type_row (Some (VariableRow n t)) v h = absurd (none_some h)
-global_type_row (Some (MethodRow n f)) v h = absurd (none_some h)
-global_type_row (Some (GlobalRow n t e)) v h = (n, e, let s : t ≡ v = some_same h in ap (λ g. Some (GlobalRow n g e)) s)
-global_type_row (Some (TermRow n f)) v h = absurd (none_some h)
+global_type_row None v h = cc
+global_type_row (Some (TypeRow n f)) v h = cc
+global_type_row (Some (VariableRow n t)) v h = cc
+global_type_row (Some (MethodRow n f)) v h = cc
+global_type_row (Some (GlobalRow n t e)) v h = (n, e, cc)
+global_type_row (Some (TermRow n f)) v h = cc
 
 pub term_row : (o : Option Row) (v : TermForm) → term_of o ≡ Some v → (m : ℕ) × (o ≡ Some (TermRow m v))
-term_row None v e = absurd (none_some e)
-term_row (Some (TypeRow n f)) v e = absurd (none_some e)
-term_row (Some (VariableRow n t)) v e = absurd (none_some e)
-term_row (Some (MethodRow n f)) v e = absurd (none_some e)
-term_row (Some (GlobalRow n t u)) v e = absurd (none_some e)
-term_row (Some (TermRow n f)) v e = (n, let s : f ≡ v = some_same e in ap (λ g. Some (TermRow n g)) s)
+term_row None v e = cc
+term_row (Some (TypeRow n f)) v e = cc
+term_row (Some (VariableRow n t)) v e = cc
+term_row (Some (MethodRow n f)) v e = cc
+term_row (Some (GlobalRow n t u)) v e = cc
+term_row (Some (TermRow n f)) v e = (n, cc)
 
 -- what can't fail to hold, holds
 less_stable : (a b : ℕ) → ((a < b → ⊥) → ⊥) → a < b
-less_stable a b h = ⊎_elim (λ lt. lt) (λ le. absurd (h (λ lt. omega arith))) (order a b)
+less_stable a b h = ⊎_elim (λ lt. lt) (λ le. absurd (h (λ lt. omega arith))) (cases_lt a b)
 
-equal_stable : (a b : ℕ) → ((a ≡ b → ⊥) → ⊥) → a ≡ b
-equal_stable a b h =
-    ⊎_elim (λ lt. absurd (h (λ e. omega arith)))
-    (λ le. ⊎_elim (λ lt. absurd (h (λ e. omega arith))) (λ ge. omega arith) (order b a)) (order a b)
+pub equal_stable : (a b : ℕ) → ((a ≡ b → ⊥) → ⊥) → a ≡ b
+equal_stable a b h = ⊎_elim (λ e. e) (λ ne. absurd (h ne)) (cases_eq a b)
 
 all_stable : {X : Type 0} (P : X → Type 0) → ((x : X) → ((P x → ⊥) → ⊥) → P x) → (xs : List X) → ((AllByRecursion P xs → ⊥) → ⊥) → AllByRecursion P xs
 all_stable P stable [] h = tt
@@ -144,7 +143,7 @@ pub record Origin (s : Section) (rows : List Row) (n : ℕ) (row : Row) : Type 0
   pub number : length (section_rows s (take index rows)) ≡ n
 
 pub origin : (s : Section) (rows : List Row) (n : ℕ) (row : Row) → slice_get (section_rows s rows) n ≡ Some row → Origin s rows n row
-origin s [] n row e = absurd (none_some e)
+origin s [] n row e = cc
 origin s (r ∷ rs) n row e = step (λ k. origin s rs k row) (eqb (place (section r)) (place s)) refl n e
   where
     later : (b : Bool) → eqb (place (section r)) (place s) ≡ b → (k m : ℕ) → Origin s rs k row → cond b (suc k) k ≡ m → Origin s (r ∷ rs) m row
@@ -152,14 +151,14 @@ origin s (r ∷ rs) n row e = step (λ k. origin s rs k row) (eqb (place (sectio
     later false q k m o e = record { index = suc o.index; at = o.at; in_section = o.in_section; number = ap (λ b. length (cond b (r ∷ section_rows s (take o.index rs)) (section_rows s (take o.index rs)))) q ∙ o.number ∙ e }
 
     step : ((k : ℕ) → slice_get (section_rows s rs) k ≡ Some row → Origin s rs k row) → (b : Bool) → eqb (place (section r)) (place s) ≡ b → (k : ℕ) → slice_get (cond b (r ∷ section_rows s rs) (section_rows s rs)) k ≡ Some row → Origin s (r ∷ rs) k row
-    step again true q zero h = record { index = 0; at = h; in_section = ap (λ x. place (section x)) (sym (some_same h)) ∙ true-eqb _ _ (sym q); number = refl }
+    step again true q zero h = record { index = 0; at = h; in_section = ap (λ x. place (section x)) (sym (same_Some _ _ h)) ∙ true-eqb _ _ (sym q); number = refl }
     step again true q (suc k) h = later true q k (suc k) (again k h) refl
     step again false q k h = later false q k k (again k h) refl
 
 -- and the other way round
 pub in_section : (s : Section) (rows : List Row) (i : ℕ) (row : Row) → slice_get rows i ≡ Some row → place (section row) ≡ place s → slice_get (section_rows s rows) (length (section_rows s (take i rows))) ≡ Some row
-in_section s [] i row e same = absurd (none_some e)
-in_section s (r ∷ rs) zero row e same = ap (λ b. slice_get (cond b (r ∷ section_rows s rs) (section_rows s rs)) 0) (eq-eqb _ _ (ap (λ x. place (section x)) (some_same e) ∙ same)) ∙ e
+in_section s [] i row e same = cc
+in_section s (r ∷ rs) zero row e same = ap (λ b. slice_get (cond b (r ∷ section_rows s rs) (section_rows s rs)) 0) (eq-eqb _ _ (ap (λ x. place (section x)) (same_Some _ _ e) ∙ same)) ∙ e
 in_section s (r ∷ rs) (suc i) row e same = step (eqb (place (section r)) (place s)) (in_section s rs i row e same)
   where
     step : (b : Bool) → slice_get (section_rows s rs) (length (section_rows s (take i rs))) ≡ Some row → slice_get (cond b (r ∷ section_rows s rs) (section_rows s rs)) (length (cond b (r ∷ section_rows s (take i rs)) (section_rows s (take i rs)))) ≡ Some row
@@ -192,8 +191,8 @@ section_part s (r ∷ rs) (suc i) = step (eqb (place (section r)) (place s)) (se
 
 -- one row more
 pub section_more : (s : Section) (rows : List Row) (i : ℕ) (row : Row) → slice_get rows i ≡ Some row → length (section_rows s (take (suc i) rows)) ≡ length (section_rows s (take i rows)) + cond (eqb (place (section row)) (place s)) 1 0
-section_more s [] i row e = absurd (none_some e)
-section_more s (r ∷ rs) zero row e = ap (λ x. length (section_rows s (x ∷ []))) (some_same e) ∙ step (eqb (place (section row)) (place s))
+section_more s [] i row e = cc
+section_more s (r ∷ rs) zero row e = ap (λ x. length (section_rows s (x ∷ []))) (same_Some _ _ e) ∙ step (eqb (place (section row)) (place s))
   where
     step : (b : Bool) → length (cond b (row ∷ []) []) ≡ 0 + cond b 1 0
     step true = refl
@@ -246,12 +245,12 @@ same_tree : (n : ℕ) (ts us : List Tree) (f : TypeForm) → ((k : ℕ) → k < 
 same_tree n ts us UnitType same p = refl
 same_tree n ts us IntType same p = refl
 same_tree n ts us (PairType a b) same p =
-    let x : get_or ts a unit ≡ get_or us a unit = getD_nth ts a unit ∙ ap (λ o. unwrap_or o unit) (same a p.0) ∙ sym (getD_nth us a unit) in
-    let y : get_or ts b unit ≡ get_or us b unit = getD_nth ts b unit ∙ ap (λ o. unwrap_or o unit) (same b p.1) ∙ sym (getD_nth us b unit) in
+    let x : get_or ts a unit ≡ get_or us a unit = sym (unwrap_or-slice_get ts a unit) ∙ ap (λ o. unwrap_or o unit) (same a p.0) ∙ unwrap_or-slice_get us a unit in
+    let y : get_or ts b unit ≡ get_or us b unit = sym (unwrap_or-slice_get ts b unit) ∙ ap (λ o. unwrap_or o unit) (same b p.1) ∙ unwrap_or-slice_get us b unit in
     cc
 same_tree n ts us (FunType a b) same p =
-    let x : get_or ts a unit ≡ get_or us a unit = getD_nth ts a unit ∙ ap (λ o. unwrap_or o unit) (same a p.0) ∙ sym (getD_nth us a unit) in
-    let y : get_or ts b unit ≡ get_or us b unit = getD_nth ts b unit ∙ ap (λ o. unwrap_or o unit) (same b p.1) ∙ sym (getD_nth us b unit) in
+    let x : get_or ts a unit ≡ get_or us a unit = sym (unwrap_or-slice_get ts a unit) ∙ ap (λ o. unwrap_or o unit) (same a p.0) ∙ unwrap_or-slice_get us a unit in
+    let y : get_or ts b unit ≡ get_or us b unit = sym (unwrap_or-slice_get ts b unit) ∙ ap (λ o. unwrap_or o unit) (same b p.1) ∙ unwrap_or-slice_get us b unit in
     cc
 
 parts_of_row : (before : List Row) (m : ℕ) (f : TypeForm) → RefersBack before (TypeRow m f) → PartsBelow (count Types before) f
@@ -265,7 +264,7 @@ module _ (rows : List Row) (fine : Faultless rows) where
   pub good_at : (i : ℕ) (row : Row) → slice_get rows i ≡ Some row → NoneOf (RowFault true (take i rows) row)
   good_at i row e =
       let lt = nth_inside rows i row e in
-      fine i row lt (some_same (sym (slice_get-get_or rows i row lt) ∙ e))
+      fine i row lt (same_Some _ _ (sym (slice_get-get_or rows i row lt) ∙ e))
 
   -- a type's form is over earlier types, and the type is the form's tree
   pub type_named : (n : ℕ) (f : TypeForm) → type_form_at rows n ≡ Some f → PartsBelow n f × (slice_get (types rows) n ≡ Some (tree (types rows) f))
@@ -310,14 +309,14 @@ module _ (rows : List Row) (fine : Faultless rows) where
       let s = type_form_row (slice_get (section_rows Types rows) n) f g in
       let o = origin Types rows m (TypeRow r.0 f) r.1 in
       let p = origin Types rows n (TypeRow s.0 f) s.1 in
-      let sooner : o.index < p.index = ⊎_elim (λ h. h) (λ h. absurd (omega (arith, section_grows Types rows p.index o.index h, o.number, p.number))) (order o.index p.index) in
+      let sooner : o.index < p.index = ⊎_elim (λ h. h) (λ h. absurd (omega (arith, section_grows Types rows p.index o.index h, o.number, p.number))) (cases_lt o.index p.index) in
       let inside : slice_get (take p.index rows) o.index ≡ Some (TypeRow r.0 f) = nth_take rows o.index p.index sooner ∙ o.at in
       let short = nth_inside (take p.index rows) o.index (TypeRow r.0 f) inside in
-      good_at p.index (TypeRow s.0 f) p.at Repeat (o.index, r.0, short, some_same (sym (slice_get-get_or (take p.index rows) o.index (TypeRow r.0 f) short) ∙ inside))
+      good_at p.index (TypeRow s.0 f) p.at Repeat (o.index, r.0, short, same_Some _ _ (sym (slice_get-get_or (take p.index rows) o.index (TypeRow r.0 f) short) ∙ inside))
 
   pub form_once : (m n : ℕ) (f : TypeForm) → type_form_at rows m ≡ Some f → type_form_at rows n ≡ Some f → m ≡ n
   form_once m n f e g =
-      ⊎_elim (λ lt. absurd (once m n f lt e g)) (λ le. ⊎_elim (λ lt. absurd (once n m f lt g e)) (λ ge. omega arith) (order n m)) (order m n)
+      ⊎_elim (λ lt. absurd (once m n f lt e g)) (λ le. ⊎_elim (λ lt. absurd (once n m f lt g e)) (λ ge. omega arith) (cases_lt n m)) (cases_lt m n)
 
   declared_below : (s : Section) (n k : ℕ) (row : Row) → slice_get (section_rows s rows) n ≡ Some row → ((before : List Row) → RefersBack before row → k < count Types before) → k < length (types rows)
   declared_below s n k row e named =
@@ -384,7 +383,7 @@ module _ (rows : List Row) (fine : Faultless rows) where
 
   -- a section keeps its limit
   pub few : (s : Section) → length (section_rows s rows) ≤ limit s
-  few s = ⊎_elim passed (λ le. le) (order (limit s) (length (section_rows s rows)))
+  few s = ⊎_elim passed (λ le. le) (cases_lt (limit s) (length (section_rows s rows)))
     where
       passed : limit s < length (section_rows s rows) → length (section_rows s rows) ≤ limit s
       passed lt =
@@ -415,7 +414,7 @@ module _ (rows : List Row) (fine : Faultless rows) where
 
   -- the rows of earlier sections all stand before a row
   earlier_all : (i : ℕ) (row : Row) → slice_get rows i ≡ Some row → (u : Section) → place u < place (section row) → length (section_rows u (take i rows)) ≡ length (section_rows u rows)
-  earlier_all i row e u lt = ⊎_elim more (λ le. let p = section_part u rows i in omega arith) (order (length (section_rows u (take i rows))) (length (section_rows u rows)))
+  earlier_all i row e u lt = ⊎_elim more (λ le. let p = section_part u rows i in omega arith) (cases_lt (length (section_rows u (take i rows))) (length (section_rows u rows)))
     where
       more : length (section_rows u (take i rows)) < length (section_rows u rows) → length (section_rows u (take i rows)) ≡ length (section_rows u rows)
       more missing =
@@ -432,8 +431,8 @@ module _ (rows : List Row) (fine : Faultless rows) where
           omega (arith, none, count_length (section row) (take j rows), section_more (section row) rows i row e, mine, section_grows (section row) rows (suc i) j (omega arith)))
           (λ ge.
           let here : j ≡ i = omega arith in
-          let same : r.0 ≡ row = some_same (sym o.at ∙ ap (slice_get rows) here ∙ e) in
-          omega (arith, ap (λ x. place (section x)) same, o.in_section)) (order i j)) (order j i))
+          let same : r.0 ≡ row = same_Some _ _ (sym o.at ∙ ap (slice_get rows) here ∙ e) in
+          omega (arith, ap (λ x. place (section x)) same, o.in_section)) (cases_lt i j)) (cases_lt j i))
 
   inside_le : (i : ℕ) (row : Row) → slice_get rows i ≡ Some row → i ≤ length rows
   inside_le i row e = let lt = nth_inside rows i row e in omega arith

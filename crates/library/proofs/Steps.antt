@@ -1,5 +1,5 @@
 -- What one row more adds to what is known of the rows before it. Assumes nothing.
-use Rattle.std.proofs.Common.{◌≡◌, ℕ, suc, ◌+◌, ◌-◌, ◌^◌, ◌<◌, ◌≤◌, true, cond, eqb, List, [], ◌∷◌, ◌++◌, length, get_or, take, Some, Ok, Err, sym, refl, ap, ◌∙◌, subst, ⊎_elim, add-one, arith, length-append}
+use Rattle.std.proofs.Common.{◌≡◌, ℕ, suc, ◌+◌, ◌<◌, ◌≤◌, true, cond, eqb, List, [], ◌∷◌, ◌++◌, length, get_or, take, Some, Ok, Err, sym, refl, ap, ◌∙◌, subst, add-one, arith, length-append}
 use Rattle.std.specs.List.{slice_get}
 use Rattle.std.proofs.lemmas.Option.{slice_get-get_or}
 use Rattle.faults.specs.declared.TypingFault.{TypingFault}
@@ -11,97 +11,33 @@ use Rattle.rows.specs.declared.forms.Section.TheVariants.{Terms}
 use Rattle.rows.specs.Faults.{Faultless}
 use Rattle.library.specs.Listing.{section_rows, term_at}
 use Rattle.library.specs.Typing.{TermIs}
-use Rattle.library.proofs.Lists.{some_same, nth_inside}
-use Rattle.std.proofs.lemmas.List.{take-append-le, get_or_append_left, get_or_push, take_more, length-take-le}
-use Rattle.rows.specs.declared.tally.Counts.{Counts}
-use Rattle.rows.specs.Tallies.{Tallied}
+use Rattle.std.proofs.lemmas.List.{length-map, map-append, length-take-le}
 use Rattle.library.specs.declared.refusal.MountFault.{MountFault}
-use Rattle.std.proofs.str.Laws.{order}
 use Rattle.faults.specs.declared.TextFault.{TextFault}
-use Rattle.faults.specs.declared.TextFault.TheVariants.{Number as NumberFault, Form as FormFault, Order, Reference, Limit, Repeat}
-use Rattle.faults.specs.Numbers.{text_number}
 use Rattle.faults.specs.declared.LibraryFault.TheVariants.{Text, Typing}
 use Rattle.rows.specs.declared.forms.Row.TheVariants.{«Type» as TypeRow, Variable as VariableRow, Method as MethodRow, Global as GlobalRow, Term as TermRow}
 use Rattle.rows.specs.Sections.{section, place}
-use Rattle.rows.specs.Faults.{Least, NoneOf, RowFault, NumbersInRange}
+use Rattle.rows.specs.Faults.{Least, RowFault}
 use Rattle.library.specs.declared.refusal.MountFault.TheVariants.{Refused}
 use Rattle.library.specs.Inference.{TypedBy, type_of}
-use Rattle.library.specs.Scopes.{ScopedBy, Words, free_in}
+use Rattle.library.specs.Scopes.{ScopedBy, free_in}
+use Rattle.library.specs.Facts.{free_sets, type_numbers}
+use Rattle.library.specs.declared.facts.TermFacts.{TermFacts}
 use Rattle.library.specs.Mounting.{Mounts}
-use Rattle.library.proofs.Lists.{nth_end, nth_left, take_all}
 use Rattle.library.proofs.Sorted.{few_rows, running_row, running_now, section_more, section_grows, section_part}
 use Rattle.library.proofs.Inferring.{Known, no_type, unlisted_type, no_definition}
 use Rattle.library.proofs.Tables.{typed_more, scoped_more, known_all}
 use Rattle.library.proofs.Trials.{text_first, parts_first, unlisted_first}
 
--- what holds of each item below a place, and of the item there, holds of each below the next place
-pub below_next : {X : Type 0} (P : X → Type 0) (xs : List X) (k : ℕ) (d : X) → ((i : ℕ) (x : X) → i < k → slice_get xs i ≡ Some x → P x) → k < length xs → P (get_or xs k d) → (i : ℕ) (x : X) → i < k + 1 → slice_get xs i ≡ Some x → P x
-below_next P xs k d below inside here i x lt e = ⊎_elim (λ p. below i x p e) newest (order i k)
-  where
-    newest : k ≤ i → P x
-    newest le =
-        let same : i ≡ k = omega arith in
-        subst P (some_same (sym (slice_get-get_or xs k d inside) ∙ ap (slice_get xs) (sym same) ∙ e)) here
-
-faultless_push : (rs : List Row) (row : Row) → Faultless rs → NoneOf (RowFault true rs row) → Faultless (rs ++ (row ∷ []))
-faultless_push rs row h here i r lt is = ⊎_elim older newest (order i (length rs))
-  where
-    older : i < length rs → NoneOf (RowFault true (take i (rs ++ (row ∷ []))) r)
-    older p = subst (λ before. NoneOf (RowFault true before r)) (sym (take-append-le i rs (row ∷ []) (omega arith))) (h i r p (sym (get_or_append_left rs (row ∷ []) r i p) ∙ is))
-
-    newest : length rs ≤ i → NoneOf (RowFault true (take i (rs ++ (row ∷ []))) r)
-    newest p =
-        let last : length rs ≡ i = omega (arith, length-append rs (row ∷ [])) in
-        let same : row ≡ r = sym (get_or_push rs row r i last) ∙ is in
-        let before : rs ≡ take i (rs ++ (row ∷ [])) = sym (take-append-le i rs (row ∷ []) (omega arith) ∙ ap (λ k. take k rs) (sym last) ∙ take_all rs) in
-        subst (λ b. NoneOf (RowFault true b r)) before (subst (λ x. NoneOf (RowFault true rs x)) same here)
-
--- one word more
-pub words_more : (known : List ℕ) (set : ℕ) → Words known → set < 2 ^ 64 → Words (known ++ (set ∷ []))
-words_more known set small lt t s e = ⊎_elim (λ p. small t s (sym (nth_left known (set ∷ []) t p) ∙ e)) newest (order t (length known))
-  where
-    newest : length known ≤ t → s < 2 ^ 64
-    newest le =
-        let last : t ≡ length known = omega (arith, nth_inside (known ++ (set ∷ [])) t s e, length-append known (set ∷ [])) in
-        let same : set ≡ s = some_same (sym (nth_end known set []) ∙ ap (slice_get (known ++ (set ∷ []))) (sym last) ∙ e) in
-        subst (λ n. n < 2 ^ 64) same lt
-
--- a number outside its range is the least fault
-pub number_least : (before : List Row) (row : Row) → (NumbersInRange row → ⊥) → Least (RowFault true before row) NumberFault
-number_least before row out = record { here = out; none_smaller = smaller }
-  where
-    smaller : (other : TextFault) → text_number other < 11 → RowFault true before row other → ⊥
-    smaller FormFault lt f = f
-    smaller NumberFault lt f = absurd (omega arith)
-    smaller Order lt f = absurd (omega arith)
-    smaller Reference lt f = absurd (omega arith)
-    smaller Limit lt f = absurd (omega arith)
-    smaller Repeat lt f = absurd (omega arith)
-
--- a part from the start, as the code takes it
-from_start : {X : Type 0} (n : ℕ) (xs : List X) → take (n - 0) xs ≡ take n xs
-from_start n xs = let e : n - 0 ≡ n = omega arith in ap (λ k. take k xs) e
-
 -- the row that a read past the end would give
 abbrev pub blank : Row
 blank = TypeRow 0 UnitType
 
-pub tallied_start : (rows : List Row) (k : ℕ) (c : Counts) (table : List ℕ) → Tallied (take k rows) c table → Tallied (take (k - 0) rows) c table
-tallied_start rows k c table h = subst (λ rs. Tallied rs c table) (sym (from_start k rows)) h
-
-pub admitted_next : (rows : List Row) (k : ℕ) (c : Counts) (table : List ℕ) → k < length rows → Faultless (take k rows) → NoneOf (RowFault true (take (k - 0) rows) (get_or rows k blank)) × Tallied (take (k - 0) rows ++ (get_or rows k blank ∷ [])) c table → Faultless (take (k + 1) rows) × Tallied (take (k + 1) rows) c table
-admitted_next rows k c table lt h given =
-    let before = from_start k rows in
-    let more = take_more rows k blank lt in (
-      subst Faultless (sym more) (faultless_push (take k rows) (get_or rows k blank) h (subst (λ rs. NoneOf (RowFault true rs (get_or rows k blank))) before given.0)),
-      subst (λ rs. Tallied rs c table) (ap (λ rs. rs ++ (get_or rows k blank ∷ [])) before ∙ sym more) given.1,
-    )
-
 pub place_few : (rows : List Row) (k : ℕ) → k ≤ length rows → Faultless (take k rows) → k < 65536
 place_few rows k le h = omega (arith, few_rows (take k rows) h, length-take-le k rows le)
 
-pub text_refused : (rows : List Row) (i : ℕ) (d : Row) → i < length rows → Faultless (take i rows) → (fault : TextFault) → Least (RowFault true (take (i - 0) rows) (get_or rows i d)) fault → (answer : MountFault) → answer ≡ Refused (record { place = i + 1; fault = Text fault }) → Mounts rows (Err answer)
-text_refused rows i d lt before fault least answer e = subst (λ a. Mounts rows (Err a)) (sym e) (i, refl, text_first rows i (get_or rows i d) (slice_get-get_or rows i d lt) before fault (subst (λ rs. Least (RowFault true rs (get_or rows i d)) fault) (from_start i rows) least))
+pub text_refused : (rows : List Row) (i : ℕ) (d : Row) → i < length rows → Faultless (take i rows) → (fault : TextFault) → Least (RowFault true (take i rows) (get_or rows i d)) fault → (answer : MountFault) → answer ≡ Refused (record { place = i + 1; fault = Text fault }) → Mounts rows (Err answer)
+text_refused rows i d lt before fault least answer e = subst (λ a. Mounts rows (Err a)) (sym e) (i, refl, text_first rows i (get_or rows i d) (slice_get-get_or rows i d lt) before fault least)
 
 module _ (rows : List Row) (fine : Faultless rows) (i : ℕ) where
   -- a row that is no term
@@ -155,3 +91,32 @@ module _ (rows : List Row) (fine : Faultless rows) (i : ℕ) where
         answer Parts h = (i, refl, parts_first rows fine i t form at known each few (no_type rows fine known each t form is number h))
         answer Unlisted h = (i, refl, unlisted_first rows fine i t form at known each few (unlisted_type rows fine known each t form is h))
         answer Definition h = absurd (no_definition rows fine known each t form is h)
+
+-- what is found of the terms among the first i rows
+pub record FoundSoFar (rows : List Row) (i : ℕ) (known : List TermFacts) : Type 0 where
+  pub typed : TypedBy rows (type_numbers known)
+  pub scoped : ScopedBy rows (free_sets known)
+  pub long : length known ≡ length (section_rows Terms (take i rows))
+
+module _ (rows : List Row) (fine : Faultless rows) (i : ℕ) (known : List TermFacts) (sofar : FoundSoFar rows i known) where
+  numbers_long : length (type_numbers known) ≡ length (section_rows Terms (take i rows))
+  numbers_long = length-map known _ ∙ sofar.long
+
+  -- with a row that is no term, and with a term
+  pub found_without : (row : Row) → slice_get rows i ≡ Some row → ((t : ℕ) (form : TermForm) → row ≡ TermRow t form → ⊥) → FoundSoFar rows (i + 1) known
+  found_without row at other = record { typed = sofar.typed; scoped = sofar.scoped; long = sofar.long ∙ no_term rows fine i row at other }
+
+  module _ (t : ℕ) (form : TermForm) (at : slice_get rows i ≡ Some (TermRow t form)) where
+    pub found_with : (facts : TermFacts) → type_of rows (type_numbers known) form ≡ Ok facts.type_number → facts.free.bits ≡ free_in (free_sets known) form → FoundSoFar rows (i + 1) (known ++ (facts ∷ []))
+    found_with facts type set =
+        let numbers = map-append (λ (f : TermFacts). f.type_number) known (facts ∷ []) in
+        let sets = map-append (λ (f : TermFacts). f.free.bits) known (facts ∷ []) in
+        let many = length-map known (λ (f : TermFacts). f.free.bits) in
+        record {
+          typed = subst (TypedBy rows) (sym numbers) (typed_next rows fine i t form at (type_numbers known) facts.type_number sofar.typed numbers_long type).0;
+          scoped = subst (ScopedBy rows) (sym sets) (scoped_next rows fine i t form at (free_sets known) facts.free.bits sofar.scoped (many ∙ sofar.long) set).0;
+          long = omega (arith, length-append known (facts ∷ []), one_term rows fine i t form at, sofar.long);
+        }
+
+    pub found_refused : (fault : TypingFault) → type_of rows (type_numbers known) form ≡ Err fault → (told : MountFault) → told ≡ Refused (record { place = i + 1; fault = Typing fault }) → Mounts rows (Err told)
+    found_refused fault e told q = typing_refused rows fine i t form at (type_numbers known) sofar.typed numbers_long fault e told q

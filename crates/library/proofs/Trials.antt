@@ -1,6 +1,9 @@
 -- Which fault of rows is the first. Assumes nothing.
-use Rattle.std.proofs.Common.{◌≡◌, ℕ, ◌<◌, true, cond, eqb, ◌⊎◌, List, length, take, Some, Ok, Err, Result, sym, refl, ap, ◌∙◌, subst, inl, inr, ⊎_elim, arith}
+use Rattle.std.proofs.lemmas.Option.{same_Some}
+use Rattle.std.proofs.Common.{◌≡◌, ℕ, ◌<◌, true, cond, eqb, ◌⊎◌, List, length, take, Some, Ok, Err, Result, MatchResult, sym, refl, ap, ◌∙◌, subst, inl, inr, ⊎_elim, arith}
 use Rattle.std.specs.List.{slice_get}
+use Rattle.std.specs.Result.{IsErrAnd}
+use Rattle.std.proofs.lemmas.Result.{err_from_is_err_and}
 use Rattle.faults.specs.declared.TypingFault.TheVariants.{Parts, Unlisted, Definition}
 use Rattle.rows.specs.declared.forms.TermForm.{TermForm}
 use Rattle.rows.specs.declared.forms.Row.{Row}
@@ -9,8 +12,8 @@ use Rattle.rows.specs.Types.{Tree}
 use Rattle.rows.specs.Faults.{Faultless}
 use Rattle.library.specs.Listing.{section_rows}
 use Rattle.library.specs.Typing.{HasType}
-use Rattle.library.proofs.Lists.{some_same, nth_inside, nth_there}
-use Rattle.std.proofs.str.Laws.{order}
+use Rattle.library.proofs.Lists.{nth_inside, nth_there}
+use Rattle.std.proofs.lemmas.Bool.{cases_lt}
 use Rattle.faults.specs.declared.TextFault.{TextFault}
 use Rattle.faults.specs.declared.TextFault.TheVariants.{Form as FormFault, Number as NumberFault, Order, Reference, Limit, Repeat}
 use Rattle.faults.specs.declared.LibraryFault.{LibraryFault}
@@ -40,7 +43,7 @@ module _ (rows : List Row) (i : ℕ) (row : Row) (at : slice_get rows i ≡ Some
 
       smaller : (j : ℕ) (g : TextFault) → j ≡ i → text_number g < text_number fault → FaultAt rows j (Text g) → ⊥
       smaller j g same lt f =
-          let alike : f.0 ≡ row = some_same (sym f.1 ∙ ap (slice_get rows) same ∙ at) in
+          let alike : f.0 ≡ row = same_Some _ _ (sym f.1 ∙ ap (slice_get rows) same ∙ at) in
           least.none_smaller g lt (subst (λ r. RowFault true (take i rows) r g) alike (subst (λ k. RowFault true (take k rows) f.0 g) same f.2))
 
       earlier : (j : ℕ) (other : LibraryFault) → Before j other i (Text fault) → FaultAt rows j other → ⊥
@@ -97,7 +100,7 @@ module _ (rows : List Row) (fine : Faultless rows) where
       where
         same_place : (j : ℕ) → j ≡ i → FaultAt rows j (Typing Parts) → ⊥
         same_place j same f =
-            let alike : f.0 ≡ TermRow t form = some_same (sym f.1 ∙ ap (slice_get rows) same ∙ at) in
+            let alike : f.0 ≡ TermRow t form = same_Some _ _ (sym f.1 ∙ ap (slice_get rows) same ∙ at) in
             subst (λ r. HasTypingFault rows r Parts) alike f.2 here.type here.typed
 
         earlier : (j : ℕ) (other : LibraryFault) → Before j other i (Typing Unlisted) → FaultAt rows j other → ⊥
@@ -152,7 +155,7 @@ by_own_number (Typing Unlisted) = refl
 by_own_number (Typing Definition) = refl
 
 compared : (a b : ℕ) → ((a < b) ⊎ (b < a)) ⊎ (a ≡ b)
-compared a b = ⊎_elim (λ lt. inl (inl lt)) (λ le. ⊎_elim (λ lt. inl (inr lt)) (λ ge. inr (omega arith)) (order b a)) (order a b)
+compared a b = ⊎_elim (λ lt. inl (inl lt)) (λ le. ⊎_elim (λ lt. inl (inr lt)) (λ ge. inr (omega arith)) (cases_lt b a)) (cases_lt a b)
 
 pub one_first : (rows : List Row) (i j : ℕ) (f g : LibraryFault) → FirstFault rows i f → FirstFault rows j g → (i ≡ j) × (f ≡ g)
 one_first rows i j f g a b =
@@ -180,3 +183,9 @@ one_answer rows (Err Memory) other a b p q = absurd (p refl)
 
 pub answered : (rows : List Row) (answer : Result (Unit {0}) MountFault) → Mounts rows answer → Answered rows answer
 answered rows answer m = record { mounts = m; no_other = λ other n p q. one_answer rows other answer n m p q }
+
+-- the same for a fault that a `?` hands on
+pub answered_exit : {T : Type 0} (rows : List Row) (P : T → Type 0) (result : Result T MountFault) (fault : MountFault) → IsErrAnd result (λ told. told ≡ fault) → Mounts rows (Err fault) → MatchResult result P (λ told. Answered rows (Err told))
+answered_exit rows P result fault exit mounts =
+    let p = err_from_is_err_and result exit in
+    rw (p.1, p.2) (answered rows (Err fault) mounts)

@@ -1,4 +1,5 @@
 -- Each term has one type. Assumes nothing.
+use Rattle.std.proofs.lemmas.Option.{same_Some}
 use Rattle.std.proofs.Common.{◌≡◌, ℕ, List, Option, sym, refl, ap, ◌∙◌, subst}
 use Rattle.std.specs.List.{slice_get}
 use Rattle.rows.specs.declared.forms.TermForm.{TermForm}
@@ -6,7 +7,6 @@ use Rattle.rows.specs.declared.forms.TermForm.TheVariants.{Unit as UnitTerm, Num
 use Rattle.rows.specs.declared.forms.Row.{Row}
 use Rattle.rows.specs.Types.{Tree, unit, int, pair, fun, types}
 use Rattle.library.specs.Typing.{TermIs, Names, VariableHas, MethodHas, GlobalHas, HasType, unit_rule, num_rule, var_rule, meth_rule, get_rule, lam_rule, set_rule, op_rule, pair_rule, fst_rule, snd_rule, app_rule, if_rule, let_rule, assert_rule, OneType}
-use Rattle.library.proofs.Lists.{some_same}
 
 -- what the rule of a term's form says of its type
 abbrev pub Rule : List Row → TermForm → Tree → Type 0
@@ -27,26 +27,26 @@ Rule rows (Let x a b) A = (B : Tree) × VariableHas rows x B × HasType rows a B
 Rule rows (Assert a) A = HasType rows a int × (A ≡ unit)
 
 pub ruled : {rows : List Row} {t : ℕ} {A : Tree} → HasType rows t A → (form : TermForm) → TermIs rows t form → Rule rows form A
-ruled {rows = rows} (unit_rule e) form h = subst (λ f. Rule rows f unit) (some_same (sym e ∙ h)) refl
-ruled {rows = rows} (num_rule e) form h = subst (λ f. Rule rows f int) (some_same (sym e ∙ h)) refl
-ruled {rows = rows} (var_rule {A = A} e v) form h = subst (λ f. Rule rows f A) (some_same (sym e ∙ h)) v
-ruled {rows = rows} (meth_rule {A = A} e v) form h = subst (λ f. Rule rows f A) (some_same (sym e ∙ h)) v
-ruled {rows = rows} (get_rule {A = A} e v) form h = subst (λ f. Rule rows f A) (some_same (sym e ∙ h)) v
-ruled {rows = rows} (lam_rule {A = A} {B = B} e v a) form h = subst (λ f. Rule rows f (fun A B)) (some_same (sym e ∙ h)) (A, B, v, a, refl)
-ruled {rows = rows} (set_rule {A = A} e v a) form h = subst (λ f. Rule rows f unit) (some_same (sym e ∙ h)) (A, v, a, refl)
-ruled {rows = rows} (op_rule e a b) form h = subst (λ f. Rule rows f int) (some_same (sym e ∙ h)) (a, b, refl)
-ruled {rows = rows} (pair_rule {A = A} {B = B} e a b) form h = subst (λ f. Rule rows f (pair A B)) (some_same (sym e ∙ h)) (A, B, a, b, refl)
-ruled {rows = rows} (fst_rule {A = A} {B = B} e a) form h = subst (λ f. Rule rows f A) (some_same (sym e ∙ h)) (B, a)
-ruled {rows = rows} (snd_rule {A = A} {B = B} e a) form h = subst (λ f. Rule rows f B) (some_same (sym e ∙ h)) (A, a)
-ruled {rows = rows} (app_rule {A = A} {B = B} e f a) form h = subst (λ f. Rule rows f B) (some_same (sym e ∙ h)) (A, f, a)
-ruled {rows = rows} (if_rule {A = A} e c a b) form h = subst (λ f. Rule rows f A) (some_same (sym e ∙ h)) (c, a, b)
-ruled {rows = rows} (let_rule {A = A} {B = B} e v a b) form h = subst (λ f. Rule rows f B) (some_same (sym e ∙ h)) (A, v, a, b)
-ruled {rows = rows} (assert_rule e a) form h = subst (λ f. Rule rows f unit) (some_same (sym e ∙ h)) (a, refl)
+ruled {rows = rows} (unit_rule e) form h = subst (λ f. Rule rows f unit) (same_Some _ _ (sym e ∙ h)) refl
+ruled {rows = rows} (num_rule e) form h = subst (λ f. Rule rows f int) (same_Some _ _ (sym e ∙ h)) refl
+ruled {rows = rows} (var_rule {A = A} e v) form h = subst (λ f. Rule rows f A) (same_Some _ _ (sym e ∙ h)) v
+ruled {rows = rows} (meth_rule {A = A} e v) form h = subst (λ f. Rule rows f A) (same_Some _ _ (sym e ∙ h)) v
+ruled {rows = rows} (get_rule {A = A} e v) form h = subst (λ f. Rule rows f A) (same_Some _ _ (sym e ∙ h)) v
+ruled {rows = rows} (lam_rule {A = A} {B = B} e v a) form h = subst (λ f. Rule rows f (fun A B)) (same_Some _ _ (sym e ∙ h)) (A, B, v, a, refl)
+ruled {rows = rows} (set_rule {A = A} e v a) form h = subst (λ f. Rule rows f unit) (same_Some _ _ (sym e ∙ h)) (A, v, a, refl)
+ruled {rows = rows} (op_rule e a b) form h = subst (λ f. Rule rows f int) (same_Some _ _ (sym e ∙ h)) (a, b, refl)
+ruled {rows = rows} (pair_rule {A = A} {B = B} e a b) form h = subst (λ f. Rule rows f (pair A B)) (same_Some _ _ (sym e ∙ h)) (A, B, a, b, refl)
+ruled {rows = rows} (fst_rule {A = A} {B = B} e a) form h = subst (λ f. Rule rows f A) (same_Some _ _ (sym e ∙ h)) (B, a)
+ruled {rows = rows} (snd_rule {A = A} {B = B} e a) form h = subst (λ f. Rule rows f B) (same_Some _ _ (sym e ∙ h)) (A, a)
+ruled {rows = rows} (app_rule {A = A} {B = B} e f a) form h = subst (λ f. Rule rows f B) (same_Some _ _ (sym e ∙ h)) (A, f, a)
+ruled {rows = rows} (if_rule {A = A} e c a b) form h = subst (λ f. Rule rows f A) (same_Some _ _ (sym e ∙ h)) (c, a, b)
+ruled {rows = rows} (let_rule {A = A} {B = B} e v a b) form h = subst (λ f. Rule rows f B) (same_Some _ _ (sym e ∙ h)) (A, v, a, b)
+ruled {rows = rows} (assert_rule e a) form h = subst (λ f. Rule rows f unit) (same_Some _ _ (sym e ∙ h)) (a, refl)
 
 names_one : (rows : List Row) (o : Option ℕ) (A B : Tree) → Names rows o A → Names rows o B → A ≡ B
 names_one rows o A B v w =
-    let same : v.number ≡ w.number = some_same (sym v.is ∙ w.is) in
-    some_same (sym v.named ∙ ap (slice_get (types rows)) same ∙ w.named)
+    let same : v.number ≡ w.number = same_Some _ _ (sym v.is ∙ w.is) in
+    same_Some _ _ (sym v.named ∙ ap (slice_get (types rows)) same ∙ w.named)
 
 one : {rows : List Row} {t : ℕ} {A : Tree} → HasType rows t A → (B : Tree) → HasType rows t B → A ≡ B
 one (unit_rule e) B d = sym (ruled d UnitTerm e)

@@ -5,6 +5,7 @@ pub mod Closed
 pub mod Definitions
 pub mod Inference
 pub mod Scopes
+pub mod Facts
 pub mod Judging
 pub mod Mounting
 pub mod Held

@@ -1,5 +1,5 @@
 //! Rows that are tried one by one for the faults of a text.
-ghost use Rattle.std.specs.Prelude.{ℕ, ◌+◌, true, [], ◌∷◌, ◌++◌, Err, MatchResult};
+ghost use Rattle.std.specs.Prelude.{true, [], ◌∷◌, ◌++◌, Err, MatchResult};
 ghost use Rattle.library.specs.Mounting.{Mounts};
 ghost use Rattle.rows.specs.Faults.{Faultless, Least, NoneOf, RowFault};
 ghost use Rattle.rows.specs.Tallies.{Tallied};
@@ -25,10 +25,10 @@ pub(crate) fn admit_all(rows: &[Row]) -> Result<Tally, MountFault>
 {
     let mut tally = Tally::new();
     for (place, row) in rows.iter().enumerate() {
-        match admit(tally, &rows[0..place], *row) {
-            Ok(next) => tally = next,
-            Err(fault) => return Err(fault_of_row(place, LibraryFault::Text(fault))),
-        }
+        tally = admit(tally, &rows[..place], *row).map_err(move |fault| fault_of_row(
+            place,
+            LibraryFault::Text(fault),
+        ))?;
     }
     Ok(tally)
 }

@@ -1,8 +1,8 @@
 //! What a library tells of its rows.
 ghost use Rattle.std.specs.Prelude.{◌≡◌, ℕ, Some, None, Option, MatchOption};
 ghost use Rattle.library.specs.Definitions.{SoundDefinitions};
+ghost use Rattle.library.specs.Facts.{type_numbers};
 ghost use Rattle.library.specs.Held.{library_rows};
-ghost use Rattle.library.specs.Inference.{Sectioned};
 ghost use Rattle.library.specs.Listing.{global_term_at, global_type_at, method_at, method_type_at, term_at, type_form_at, variable_type_at};
 ghost use Rattle.library.specs.Mounting.{WellTyped};
 ghost use Rattle.library.specs.Typing.{HasType};
@@ -11,15 +11,16 @@ ghost use Rattle.rows.specs.Types.{Tree, leaves, types};
 ghost use Rattle.std.specs.List.{slice_get};
 ghost use Rattle.std.specs.Option.{option_map};
 
+use super::facts::TermFacts;
 use super::library::Library;
-use super::listing::{Listing, item};
+use super::listing::Listing;
+use super::typing::type_number_at;
 use rows::{Counts, MethodForm, Row, Tally, TermForm, TypeForm};
 
 impl Library {
     // The rows, to be looked up.
     fn listing(&self) -> Listing
         ensures same_rows { result.rows.now ≡ library_rows self.now }
-        ensures sectioned { Sectioned result.rows.now result.counts }
         ensures well_typed { WellTyped (library_rows self.now) }
         ensures sound_definitions { SoundDefinitions (library_rows self.now) }
     {
@@ -29,11 +30,11 @@ impl Library {
         }
     }
 
-    // The numbers of the types of all terms.
-    fn types(&self) -> &[u32]
-        ensures types_of_terms { (t : ℕ) (n : Option ℕ) → n ≡ slice_get result.now t → MatchOption n (term_at (library_rows self.now) t ≡ None) (λ k. (type : Tree) × (slice_get (types (library_rows self.now)) k ≡ Some type) × HasType (library_rows self.now) t type) }
+    // What is found of all terms.
+    fn term_facts(&self) -> &[TermFacts]
+        ensures types_of_terms { (t : ℕ) (n : Option ℕ) → n ≡ slice_get (type_numbers result.now) t → MatchOption n (term_at (library_rows self.now) t ≡ None) (λ k. (type : Tree) × (slice_get (types (library_rows self.now)) k ≡ Some type) × HasType (library_rows self.now) t type) }
     {
-        &self.term_types
+        &self.term_facts
     }
 
     /// The rows of the library. They are well-formed and well-typed, its methods are closed functions of their declared
@@ -121,6 +122,6 @@ impl Library {
     pub fn term_type(&self, number: u32) -> Option<u32>
         ensures type_of_term { MatchOption result (term_at (library_rows self.now) number ≡ None) (λ n. (type : Tree) × (slice_get (types (library_rows self.now)) n ≡ Some type) × HasType (library_rows self.now) number type) }
     {
-        item(self.types(), number as usize)
+        type_number_at(self.term_facts(), number)
     }
 }

@@ -1,79 +1,43 @@
 //! The rules for methods and globals, tried where the types and the free variables of all terms are known.
-ghost use Rattle.std.specs.Prelude.{◌≡◌, ℕ, ◌<◌, true, false, Some, MatchOption};
-ghost use Rattle.library.specs.Inference.{Sectioned, same_number};
-ghost use Rattle.library.specs.Judging.{closed_function, global_stands, is_function, is_lam, is_num, method_stands, stands};
+ghost use Rattle.std.specs.Prelude.{◌≡◌, ◌&&◌, Some, not, position};
+ghost use Rattle.library.specs.Facts.{free_sets, type_numbers};
+ghost use Rattle.library.specs.Inference.{same_number};
+ghost use Rattle.library.specs.Judging.{closed_function, global_stands, is_function, method_stands, stands};
 ghost use Rattle.library.specs.Listing.{type_form_at};
-ghost use Rattle.rows.specs.declared.forms.Row.{Row};
 ghost use Rattle.std.specs.List.{slice_get};
 
-use super::listing::{Listing, item};
-use super::typing::same_number;
+use super::facts::TermFacts;
+use super::listing::Listing;
 use rows::{MethodForm, Row, TermForm, TypeForm};
 
-// What is known of all terms: the numbers of their types, and their free variables.
-#[derive(Clone, Copy)]
-pub(crate) struct TermFacts<'a> {
-    pub(crate) types: &'a [u32],
-    pub(crate) free: &'a [u64],
-}
-
-// Whether a term is a `lam`.
-fn is_lam(term: Option<TermForm>) -> bool
-    ensures form_of_lam { result ≡ is_lam term }
+// Whether a term has this type and no free variable.
+fn closed_of_type(terms: &[TermFacts], number: u32, term: u32) -> bool
+    ensures no_free_variable { result ≡ same_number (Some number) (slice_get (type_numbers terms.now) term) && same_number (Some 0) (slice_get (free_sets terms.now) term) }
 {
-    match term {
-        Some(TermForm::Lam(_, _)) => true,
-        _ => false,
-    }
-}
-
-// Whether a term is a number.
-fn is_num(term: Option<TermForm>) -> bool
-    ensures form_of_num { result ≡ is_num term }
-{
-    match term {
-        Some(TermForm::Num(_)) => true,
-        _ => false,
-    }
-}
-
-// Whether a set of variables is there and is empty.
-fn is_empty_set(set: Option<u64>) -> bool
-    ensures no_variable { result ≡ same_number (Some 0) set }
-{
-    match set {
-        Some(bits) => 0 == bits,
-        None => false,
-    }
+    terms.get(term as usize).is_some_and(|facts| facts.type_number == number
+        && facts.free.is_empty())
 }
 
 impl Listing<'_> {
     // Whether the type of a number is a function type.
     fn is_function(self, number: u32) -> bool
-        requires sectioned { Sectioned self.rows.now self.counts }
         ensures function_form { result ≡ is_function (type_form_at self.entry.rows.now number) }
     {
-        match self.type_form(number) {
-            Some(TypeForm::Fun(_, _)) => true,
-            _ => false,
-        }
+        matches!(self.type_form(number), Some(TypeForm::Fun(_, _)))
     }
 
     // Whether a term is a closed function of a type.
-    fn closed_function(self, terms: TermFacts, number: u32, term: u32) -> bool
-        requires sectioned { Sectioned self.rows.now self.counts }
-        ensures closed_lam_of_type { result ≡ closed_function self.entry.rows.now terms.entry.types.now terms.entry.free.now number term }
+    fn closed_function(self, terms: &[TermFacts], number: u32, term: u32) -> bool
+        ensures closed_lam_of_type { result ≡ closed_function self.entry.rows.now (type_numbers terms.now) (free_sets terms.now) number term }
     {
         self.is_function(number)
-            && is_lam(self.term(term))
-            && same_number(Some(number), item(terms.types, term as usize))
-            && is_empty_set(item(terms.free, term as usize))
+            && matches!(self.term(term), Some(TermForm::Lam(_, _)))
+            && closed_of_type(terms, number, term)
     }
 
     // Whether a method keeps its rule.
-    fn method_stands(self, terms: TermFacts, form: MethodForm) -> bool
-        requires sectioned { Sectioned self.rows.now self.counts }
-        ensures rule_of_methods { result ≡ method_stands self.entry.rows.now terms.entry.types.now terms.entry.free.now form }
+    fn method_stands(self, terms: &[TermFacts], form: MethodForm) -> bool
+        ensures rule_of_methods { result ≡ method_stands self.entry.rows.now (type_numbers terms.now) (free_sets terms.now) form }
     {
         match form {
             MethodForm::Abstract(number) => self.is_function(number),
@@ -84,18 +48,17 @@ impl Listing<'_> {
     }
 
     // Whether a global of a type and a term keeps its rule.
-    fn global_stands(self, terms: TermFacts, number: u32, term: u32) -> bool
-        requires sectioned { Sectioned self.rows.now self.counts }
-        ensures rule_of_globals { result ≡ global_stands self.entry.rows.now terms.entry.types.now terms.entry.free.now number term }
+    fn global_stands(self, terms: &[TermFacts], number: u32, term: u32) -> bool
+        ensures rule_of_globals { result ≡ global_stands self.entry.rows.now (type_numbers terms.now) (free_sets terms.now) number term }
     {
-        let word = self.is_int(Some(number)) && is_num(self.term(term));
+        let word = self.type_form(number) == Some(TypeForm::Int)
+            && matches!(self.term(term), Some(TermForm::Num(_)));
         word || self.closed_function(terms, number, term)
     }
 
     // Whether a row keeps its rule.
-    fn stands(self, terms: TermFacts, row: Row) -> bool
-        requires sectioned { Sectioned self.rows.now self.counts }
-        ensures rule_of_row { result ≡ stands self.entry.rows.now terms.entry.types.now terms.entry.free.now row }
+    fn stands(self, terms: &[TermFacts], row: Row) -> bool
+        ensures rule_of_row { result ≡ stands self.entry.rows.now (type_numbers terms.now) (free_sets terms.now) row }
     {
         match row {
             Row::Type(_, _) | Row::Variable(_, _) | Row::Term(_, _) => true,
@@ -105,15 +68,9 @@ impl Listing<'_> {
     }
 
     // The place of the first row that breaks its rule.
-    pub(crate) fn first_broken(self, terms: TermFacts) -> Option<usize>
-        requires sectioned { Sectioned self.rows.now self.counts }
-        ensures all_before_stand { MatchOption result ((i : ℕ) (row : Row) → slice_get self.entry.rows.now i ≡ Some row → stands self.entry.rows.now terms.entry.types.now terms.entry.free.now row ≡ true) (λ place. ((i : ℕ) (row : Row) → i < place → slice_get self.entry.rows.now i ≡ Some row → stands self.entry.rows.now terms.entry.types.now terms.entry.free.now row ≡ true) × ((row : Row) × (slice_get self.entry.rows.now place ≡ Some row) × (stands self.entry.rows.now terms.entry.types.now terms.entry.free.now row ≡ false))) }
+    pub(crate) fn first_broken(self, terms: &[TermFacts]) -> Option<usize>
+        ensures all_before_stand { result ≡ position (λ row. not (stands self.entry.rows.now (type_numbers terms.now) (free_sets terms.now) row)) self.entry.rows.now }
     {
-        for (place, row) in self.rows.iter().enumerate() {
-            if !self.stands(terms, *row) {
-                return Some(place);
-            }
-        }
-        None
+        self.rows.iter().position(|row| !self.stands(terms, *row))
     }
 }

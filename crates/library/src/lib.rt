@@ -4,12 +4,14 @@
 mod admitting;
 mod contents;
 mod definitions;
+mod facts;
 mod library;
 mod listing;
 mod mounting;
 mod refusal;
 mod scopes;
 mod typing;
+mod variables;
 mod wanted;
 
 pub use library::Library;

@@ -1,27 +1,17 @@
 //! Rows that are sorted into sections, looked up by section and number.
-ghost use Rattle.std.specs.Prelude.{◌≡◌, ℕ, ◌+◌, ◌<◌, ◌≤◌, Some, None, MatchBool, ◌≢◌};
+ghost use Rattle.std.specs.Prelude.{◌≡◌};
 ghost use Rattle.library.specs.Inference.{Sectioned, number_of_form, start};
 ghost use Rattle.library.specs.Listing.{global_term_at, global_type_at, method_at, method_type, method_type_at, section_rows, term_at, type_form_at, variable_type_at};
 ghost use Rattle.std.specs.List.{slice_get};
 
 use rows::{Counts, MethodForm, Row, Section, TermForm, TypeForm};
 
-// Rows with the count of each section.
+// Rows that stand sorted into sections, with the count of each section.
 #[derive(Clone, Copy)]
 pub(crate) struct Listing<'a> {
     pub(crate) rows: &'a [Row],
     pub(crate) counts: Counts,
-}
-
-// The item at a place, or none past the end.
-pub(crate) fn item<T: Copy>(items: &[T], place: usize) -> Option<T>
-    ensures item_at_place { result ≡ slice_get items.now place }
-{
-    if place < items.len() {
-        Some(items[place])
-    } else {
-        None
-    }
+    ghost sectioned: { Sectioned rows.now counts },
 }
 
 // How many rows stand before a section.
@@ -52,114 +42,86 @@ pub(crate) fn type_of_method(form: MethodForm) -> u32
 impl Listing<'_> {
     // The row of a section and a number.
     fn row(self, section: Section, number: u32) -> Option<Row>
-        requires sectioned { Sectioned self.rows.now self.counts }
         ensures row_of_number { result ≡ slice_get (section_rows section self.entry.rows.now) number }
     {
         if number >= self.counts.of(section) {
             return None;
         }
         let place = rows_before(self.counts, section) + u64::from(number);
-        item(self.rows, place as usize)
+        self.rows.get(place as usize).copied()
     }
 
     // The form of the type of a number.
     pub(crate) fn type_form(self, number: u32) -> Option<TypeForm>
-        requires sectioned { Sectioned self.rows.now self.counts }
         ensures form_of_type { result ≡ type_form_at self.entry.rows.now number }
     {
-        match self.row(Section::Types, number) {
-            Some(Row::Type(_, form)) => Some(form),
+        match self.row(Section::Types, number)? {
+            Row::Type(_, form) => Some(form),
             _ => None,
         }
     }
 
     // The type of the variable of a number.
     pub(crate) fn variable_type(self, number: u32) -> Option<u32>
-        requires sectioned { Sectioned self.rows.now self.counts }
         ensures declared_type { result ≡ variable_type_at self.entry.rows.now number }
     {
-        match self.row(Section::Variables, number) {
-            Some(Row::Variable(_, of)) => Some(of),
+        match self.row(Section::Variables, number)? {
+            Row::Variable(_, of) => Some(of),
             _ => None,
         }
     }
 
     // The method of a number.
     pub(crate) fn method(self, number: u32) -> Option<MethodForm>
-        requires sectioned { Sectioned self.rows.now self.counts }
         ensures form_of_method { result ≡ method_at self.entry.rows.now number }
     {
-        match self.row(Section::Methods, number) {
-            Some(Row::Method(_, form)) => Some(form),
+        match self.row(Section::Methods, number)? {
+            Row::Method(_, form) => Some(form),
             _ => None,
         }
     }
 
     // The type of the method of a number.
     pub(crate) fn method_type(self, number: u32) -> Option<u32>
-        requires sectioned { Sectioned self.rows.now self.counts }
         ensures declared_type { result ≡ method_type_at self.entry.rows.now number }
     {
-        match self.row(Section::Methods, number) {
-            Some(Row::Method(_, form)) => Some(type_of_method(form)),
-            _ => None,
-        }
+        self.method(number).map(type_of_method)
     }
 
     // The type of the global of a number.
     pub(crate) fn global_type(self, number: u32) -> Option<u32>
-        requires sectioned { Sectioned self.rows.now self.counts }
         ensures declared_type { result ≡ global_type_at self.entry.rows.now number }
     {
-        match self.row(Section::Globals, number) {
-            Some(Row::Global(_, of, _)) => Some(of),
+        match self.row(Section::Globals, number)? {
+            Row::Global(_, of, _) => Some(of),
             _ => None,
         }
     }
 
     // The term of the global of a number.
     pub(crate) fn global_term(self, number: u32) -> Option<u32>
-        requires sectioned { Sectioned self.rows.now self.counts }
         ensures declared_term { result ≡ global_term_at self.entry.rows.now number }
     {
-        match self.row(Section::Globals, number) {
-            Some(Row::Global(_, _, term)) => Some(term),
+        match self.row(Section::Globals, number)? {
+            Row::Global(_, _, term) => Some(term),
             _ => None,
         }
     }
 
     // The term of a number.
     pub(crate) fn term(self, number: u32) -> Option<TermForm>
-        requires sectioned { Sectioned self.rows.now self.counts }
         ensures form_of_term { result ≡ term_at self.entry.rows.now number }
     {
-        match self.row(Section::Terms, number) {
-            Some(Row::Term(_, form)) => Some(form),
+        match self.row(Section::Terms, number)? {
+            Row::Term(_, form) => Some(form),
             _ => None,
-        }
-    }
-
-    // Whether the type of a number has this form.
-    fn is_type(self, number: u32, form: TypeForm) -> bool
-        requires sectioned { Sectioned self.rows.now self.counts }
-        ensures has_form { MatchBool result (type_form_at self.entry.rows.now number ≡ Some form) (type_form_at self.entry.rows.now number ≢ Some form) }
-    {
-        match self.type_form(number) {
-            Some(listed) => listed == form,
-            None => false,
         }
     }
 
     // The number of the type of this form.
     pub(crate) fn number_of(self, form: TypeForm) -> Option<u32>
-        requires sectioned { Sectioned self.rows.now self.counts }
         ensures number_of_type { result ≡ number_of_form self.entry.rows.now form }
     {
-        for number in 0..self.counts.types {
-            if self.is_type(number, form) {
-                return Some(number);
-            }
-        }
-        None
+        (0..self.counts.types).find(|number| self.type_form(*number) == Some(form))
     }
 }

@@ -8,11 +8,9 @@ ghost use Rattle.library.specs.declared.refusal.MountFault.TheVariants.{Memory};
 ghost use Rattle.std.specs.Prelude.{◌≡◌, [], Ok, Err, Result, MatchResult, OnOk, ◌≢◌};
 
 use super::admitting::admit_all;
-use super::definitions::TermFacts;
 use super::library::Library;
 use super::listing::Listing;
 use super::refusal::{MountFault, fault_of_row};
-use super::scopes::free_variables;
 use faults::{LibraryFault, TypingFault};
 use rows::{Row, Tally};
 use std::alloc::Global;
@@ -20,28 +18,19 @@ use std::alloc::Global;
 // Makes a library of rows.
 fn drafted(heap: Global, rows: &[Row]) -> Result<Library, MountFault>
     ensures library_or_first_fault { MatchResult result (λ library. (library_rows library ≡ rows.now) × Answered rows.now (Ok tt) × SoundDefinitions rows.now) (λ fault. Answered rows.now (Err fault)) }
-    ensures one_type_each { OneType }
 {
     let tally = admit_all(rows)?;
     let listing = Listing {
         rows,
         counts: tally.counts(),
     };
-    let term_types = listing.types_of_terms(heap)?;
-    let free = free_variables(heap, rows)?;
-    let terms = TermFacts {
-        types: &term_types,
-        free: &free,
-    };
-    if let Some(place) = listing.first_broken(terms) {
+    let term_facts = listing.facts_of_terms(heap)?;
+    if let Some(place) = listing.first_broken(&term_facts) {
         return Err(fault_of_row(place, LibraryFault::Typing(TypingFault::Definition)));
     }
-    let Ok(rows) = rows.to_vec(heap) else {
-        return Err(MountFault::Memory);
-    };
     Ok(Library {
-        rows,
-        term_types,
+        rows: rows.to_vec(heap)?,
+        term_facts,
         tally,
     })
 }
@@ -53,13 +42,14 @@ impl Library {
     {
         Library {
             rows: Vec::new(heap),
-            term_types: Vec::new(heap),
+            term_facts: Vec::new(heap),
             tally: Tally::new(),
         }
     }
 
     /// Puts a library of these rows in the place of this one, where they are well-formed and well-typed. Rows with a fault
     /// are refused for the first one, at its line, and the old library stays, as it does where memory runs out.
+    #[tactic(auto, using(crate::proofs::Unique::one_type))]
     pub fn mount(&mut self, rows: &[Row]) -> Result<(), MountFault>
         ensures answer { Mounts rows.now result }
         ensures no_other_answer { (answer : Result (Unit {0}) MountFault) → Mounts rows.now answer → (answer ≢ Err Memory) → (result ≢ Err Memory) → answer ≡ result }
@@ -67,12 +57,7 @@ impl Library {
         ensures granted_definitions { OnOk result (SoundDefinitions rows.now) }
         ensures one_type_each { OneType }
     {
-        match drafted(*self.rows.allocator(), rows) {
-            Ok(library) => {
-                *self = library;
-                Ok(())
-            }
-            Err(fault) => Err(fault),
-        }
+        *self = drafted(*self.rows.allocator(), rows)?;
+        Ok(())
     }
 }

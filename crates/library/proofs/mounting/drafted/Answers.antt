@@ -1,80 +1,62 @@
-use Rattle.std.proofs.Common.{◌≡◌, Ok, Err, vec_items, sym, ◌∙◌, subst, arith}
+use Rattle.std.proofs.Common.{◌≡◌, ◌<◌, length, Ok, Err, vec_items, sym, ap, ◌∙◌, subst, arith}
 use Rattle.rows.specs.declared.forms.Section.TheVariants.{Terms}
+use Rattle.rows.specs.Sections.{count}
 use Rattle.rows.specs.Tallies.{CountsOf}
+use Rattle.library.specs.Facts.{type_numbers}
 use Rattle.library.specs.Inference.{LeavesBy, Sectioned, TypedBy}
-use Rattle.library.specs.Mounting.{Mounts, WellTyped}
-use Rattle.library.specs.declared.refusal.MountFault.TheVariants.{Memory}
-use Rattle.std.proofs.lemmas.Result.{err_from_is_err_and}
-use Rattle.library.proofs.Lists.{nth_inside}
+use Rattle.library.specs.Mounting.{WellTyped}
+use Rattle.std.proofs.lemmas.Grind.{common_steps}
 use Rattle.library.proofs.Sorted.{count_length, few_rows, sectioned}
-use Rattle.library.proofs.Granting.{found_through, granted_definitions, granted_rows, refused_by}
-use Rattle.library.proofs.Trials.{answered}
-use Rattle.library.proofs.Unique.{one_type}
+use Rattle.library.proofs.Granting.{found_through, granted_definitions, granted_all, refused_by}
+use Rattle.library.proofs.Trials.{answered, answered_exit}
 use Rattle.library.proofs.mounting.drafted.Goals as goal
 
-pub types_of_terms-requires : goal.types_of_terms-requires
-types_of_terms-requires c =
-    let given = c.in_ok-tally.ensures.tally_or_first_fault in
-    record { sectioned = subst (Sectioned c.args.rows.now) (sym c.counts.ensures.counts_of_tally) (sectioned c.args.rows.now given.0 _ given.1.counts); faultless = given.0 }
-
-pub first_broken-requires : goal.first_broken-requires
-first_broken-requires c =
+pub invariant_of-listing : goal.invariant_of-listing
+invariant_of-listing c =
     let given = c.in_ok-tally.ensures.tally_or_first_fault in
     record { sectioned = subst (Sectioned c.args.rows.now) (sym c.counts.ensures.counts_of_tally) (sectioned c.args.rows.now given.0 _ given.1.counts) }
 
 pub fault_of_row-requires : goal.fault_of_row-requires
 fault_of_row-requires c =
     let given = c.in_ok-tally.ensures.tally_or_first_fault in
-    let broken = c.in-Some.ensures.all_before_stand.1 in
-    record { few_rows = omega (arith, few_rows c.args.rows.now given.0, nth_inside c.args.rows.now c.in-Some.place broken.0 broken.1) }
+    let inside : c.in-Some.place < length c.args.rows.now = grind (arith, common_steps) in
+    record { few_rows = omega (arith, few_rows c.args.rows.now given.0) }
 
 pub returns-in-Some : goal.returns-in-Some
 returns-in-Some c =
     let given = c.in_ok-tally.ensures.tally_or_first_fault in
-    let found = found_through c.args.rows.now _ _ _ _ c.deref.ensures.value c.deref-2.ensures.value c.in_ok-term_types.ensures.types_or_first_fault c.in_ok-free.ensures.sets_of_terms in
-    record { library_or_first_fault = answered c.args.rows.now (Err c.fault_of_row.result) (refused_by c.args.rows.now given.0 _ _ found c.in-Some.place c.in-Some.ensures.all_before_stand _ c.fault_of_row.ensures.fault_at_line); one_type_each = one_type }
+    let found = found_through c.args.rows.now _ _ c.deref.ensures.value c.in_ok-term_facts.ensures.facts_or_first_fault in
+    record { library_or_first_fault = answered c.args.rows.now (Err c.fault_of_row.result) (refused_by c.args.rows.now given.0 _ _ found c.in-Some.place (sym c.in-Some.ensures.all_before_stand) _ c.fault_of_row.ensures.fault_at_line) }
 
 pub invariant_of-result : goal.invariant_of-result
 invariant_of-result c =
     let given = c.in_ok-tally.ensures.tally_or_first_fault in
-    let types = c.in_ok-term_types.ensures.types_or_first_fault in
-    let found = found_through c.args.rows.now _ _ _ _ c.deref.ensures.value c.deref-2.ensures.value types c.in_ok-free.ensures.sets_of_terms in
-    let same : vec_items c.in-Ok.rows ≡ c.args.rows.now = c.in-Ok.ensures.items_if_clones_equal (λ x y e. e) in
+    let facts = c.in_ok-term_facts.ensures.facts_or_first_fault in
+    let found = found_through c.args.rows.now _ _ c.deref.ensures.value facts in
+    let same : vec_items c.in_ok-to_vec.field-0 ≡ c.args.rows.now = c.in_ok-to_vec.ensures.items_if_clones_equal (λ x y e. e) in
     record {
-      well_typed = subst WellTyped (sym same) (granted_rows c.args.rows.now given.0 _ _ found c.in_default.ensures.all_before_stand);
+      well_typed = subst WellTyped (sym same) (granted_all c.args.rows.now given.0 _ _ found (sym c.in_default.ensures.all_before_stand));
       counted = subst (λ rs. CountsOf rs c.in_ok-tally.tally.counts) (sym same) given.1.counts;
       leaves = subst (λ rs. LeavesBy rs c.in_ok-tally.tally.leaves) (sym same) given.1.type_leaves;
-      typed = subst (λ rs. TypedBy rs (vec_items c.in_ok-term_types.term_types)) (sym same) types.0;
-      all_typed = c.in_ok-term_types.term_types.ok.0 ∙ types.1 ∙ sym (given.1.counts Terms ∙ count_length Terms c.args.rows.now);
+      typed = subst (λ rs. TypedBy rs (type_numbers (vec_items c.in_ok-term_facts.term_facts))) (sym same) facts.0;
+      all_typed = c.in_ok-term_facts.term_facts.ok.0 ∙ facts.2 ∙ sym (count_length Terms c.args.rows.now) ∙ ap (count Terms) (sym same);
     }
 
 pub returns : goal.returns
 returns c =
     let given = c.in_ok-tally.ensures.tally_or_first_fault in
-    let found = found_through c.args.rows.now _ _ _ _ c.deref.ensures.value c.deref-2.ensures.value c.in_ok-term_types.ensures.types_or_first_fault c.in_ok-free.ensures.sets_of_terms in
+    let found = found_through c.args.rows.now _ _ c.deref.ensures.value c.in_ok-term_facts.ensures.facts_or_first_fault in
     record {
       library_or_first_fault = (
-        c.in-Ok.ensures.items_if_clones_equal (λ x y e. e),
-        answered c.args.rows.now (Ok tt) (granted_rows c.args.rows.now given.0 _ _ found c.in_default.ensures.all_before_stand),
-        granted_definitions c.args.rows.now given.0 _ _ found c.in_default.ensures.all_before_stand,
+        c.in_ok-to_vec.ensures.items_if_clones_equal (λ x y e. e),
+        answered c.args.rows.now (Ok tt) (granted_all c.args.rows.now given.0 _ _ found (sym c.in_default.ensures.all_before_stand)),
+        granted_definitions c.args.rows.now given.0 _ _ found (sym c.in_default.ensures.all_before_stand),
       );
-      one_type_each = one_type;
     }
 
 pub returns-in_err-tally : goal.returns-in_err-tally
-returns-in_err-tally c =
-    let p = err_from_is_err_and c.from_residual.result c.from_residual.ensures.1 in
-    rw (p.1, p.2) (record { library_or_first_fault = answered c.args.rows.now _ c.in_err-tally.ensures.tally_or_first_fault; one_type_each = one_type })
+returns-in_err-tally c = record { library_or_first_fault = answered_exit c.args.rows.now _ _ _ c.from_residual.ensures.1 c.in_err-tally.ensures.tally_or_first_fault }
 
-pub returns-in_err-term_types : goal.returns-in_err-term_types
-returns-in_err-term_types c =
-    let p = err_from_is_err_and c.from_residual-in_err-term_types.result c.from_residual-in_err-term_types.ensures.1 in
-    rw (p.1, p.2) (record { library_or_first_fault = answered c.args.rows.now _ c.in_err-term_types.ensures.types_or_first_fault; one_type_each = one_type })
-
-pub returns-in_err-free : goal.returns-in_err-free
-returns-in_err-free c =
-    let p = err_from_is_err_and c.from_residual-in_err-free.result c.from_residual-in_err-free.ensures.1 in
-    rw (p.1, p.2) (record { library_or_first_fault = answered c.args.rows.now _ (subst (λ f. Mounts c.args.rows.now (Err f)) (sym c.in_err-free.ensures.sets_of_terms) tt); one_type_each = one_type })
-
-pub returns-in_default-to_vec : goal.returns-in_default-to_vec
-returns-in_default-to_vec c = record { library_or_first_fault = answered c.args.rows.now (Err Memory) tt; one_type_each = one_type }
+pub returns-in_err-term_facts : goal.returns-in_err-term_facts
+returns-in_err-term_facts c =
+    record { library_or_first_fault = answered_exit c.args.rows.now _ _ _ c.from_residual-in_err-term_facts.ensures.1 c.in_err-term_facts.ensures.facts_or_first_fault }
