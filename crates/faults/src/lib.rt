@@ -1,4 +1,5 @@
 //! Faults that a text, a library or the settings of play are refused for, with their places and numbers.
+//! A number is how a fault is printed: each kind of fault tells its own, and the code tells faults apart by their enums.
 #![tactic(auto)]
 
 ghost use Rattle.faults.specs.declared.LibraryFault.TheVariants.{Text as LibraryText, Typing as LibraryTyping};
@@ -6,7 +7,7 @@ ghost use Rattle.faults.specs.declared.PlayFault.TheVariants.{Text};
 ghost use Rattle.faults.specs.Numbers.{as_play, in_library, in_play, library_number, play_number, taken_in, text_number, typing_number};
 ghost use Rattle.std.specs.Prelude.{◌≡◌};
 
-/// A fault with its place: a line, or 0 where no line fits.
+/// A fault with its place: a line, or 0 where no line fits. It is a number, as it is printed.
 #[derive(Clone, Copy, PartialEq, Eq, Debug)]
 pub struct Placed<F> {
     pub place: u32,
@@ -157,7 +158,7 @@ impl From<LibraryFault> for PlayFault {
     }
 }
 
-// Each wider kind of fault has its own impl here: one for all kinds would overlap with std's `From<T> for T`.
+// One impl for each pair of kinds, since one for all kinds would overlap with std's `From<T> for T`.
 impl From<Placed<TextFault>> for Placed<PlayFault> {
     ghost from_gives = { λ p r. r ≡ taken_in p };
 

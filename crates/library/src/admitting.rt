@@ -5,7 +5,7 @@ ghost use Rattle.rows.specs.Faults.{Faultless, Least, NoneOf, RowFault};
 ghost use Rattle.rows.specs.Tallies.{Tallied};
 
 use super::refusal::{MountFault, fault_of_row};
-use faults::{LibraryFault, TextFault};
+use faults::TextFault;
 use rows::{Row, Tally};
 
 // Tries a row after the rows before it, of which there is a tally.
@@ -27,7 +27,7 @@ pub(crate) fn admit_all(rows: &[Row]) -> Result<Tally, MountFault>
     for (place, row) in rows.iter().enumerate() {
         tally = admit(tally, &rows[..place], *row).map_err(move |fault| fault_of_row(
             place,
-            LibraryFault::Text(fault),
+            fault.into(),
         ))?;
     }
     Ok(tally)

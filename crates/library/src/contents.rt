@@ -62,6 +62,7 @@ impl Library {
         self.tallied().counts()
     }
 
+    // What is looked up in rows that are not mounted yet as well stands in `Listing`: these are its names for a library.
     /// The form of the type of a number, or none past the last type.
     pub fn type_form(&self, number: u32) -> Option<TypeForm>
         ensures form_of_type { result ≡ type_form_at (library_rows self.now) number }

@@ -12,7 +12,6 @@ use super::listing::Listing;
 use super::refusal::{MountFault, fault_of_row};
 use super::scopes::free_in;
 use super::variables::VariableSet;
-use faults::LibraryFault;
 use rows::Row;
 use std::alloc::Global;
 
@@ -32,10 +31,9 @@ impl Listing<'_> {
         let mut known: Vec<TermFacts> = Vec::new(heap);
         for (place, row) in self.rows.iter().enumerate() {
             if let Row::Term(_, form) = *row {
-                let type_number = self.type_of(&known, form).map_err(move |fault| fault_of_row(
-                    place,
-                    LibraryFault::Typing(fault),
-                ))?;
+                let type_number = self
+                    .type_of(&known, form)
+                    .map_err(move |fault| fault_of_row(place, fault.into()))?;
                 let free = free_in(&known, form);
                 known.push(TermFacts { type_number, free })?;
             }

@@ -3,6 +3,7 @@ ghost use Rattle.std.specs.Prelude.{◌≡◌};
 ghost use Rattle.library.specs.Inference.{Sectioned, number_of_form, start};
 ghost use Rattle.library.specs.Listing.{global_term_at, global_type_at, method_at, method_type, method_type_at, section_rows, term_at, type_form_at, variable_type_at};
 ghost use Rattle.std.specs.List.{slice_get};
+ghost use Rattle.std.specs.Option.{option_map};
 
 use rows::{Counts, MethodForm, Row, Section, TermForm, TypeForm};
 
@@ -51,7 +52,7 @@ impl Listing<'_> {
         self.rows.get(place as usize).copied()
     }
 
-    // The form of the type of a number.
+    // The form of the type of a number. Each lookup takes its parts out of another kind of row, so each has its own match.
     pub(crate) fn type_form(self, number: u32) -> Option<TypeForm>
         ensures form_of_type { result ≡ type_form_at self.entry.rows.now number }
     {
@@ -88,24 +89,29 @@ impl Listing<'_> {
         self.method(number).map(type_of_method)
     }
 
+    // The type and the term of the global of a number.
+    fn global(self, number: u32) -> Option<(u32, u32)>
+        ensures declared_type { option_map (λ p. p.0) result ≡ global_type_at self.entry.rows.now number }
+        ensures declared_term { option_map (λ p. p.1) result ≡ global_term_at self.entry.rows.now number }
+    {
+        match self.row(Section::Globals, number)? {
+            Row::Global(_, of, term) => Some((of, term)),
+            _ => None,
+        }
+    }
+
     // The type of the global of a number.
     pub(crate) fn global_type(self, number: u32) -> Option<u32>
         ensures declared_type { result ≡ global_type_at self.entry.rows.now number }
     {
-        match self.row(Section::Globals, number)? {
-            Row::Global(_, of, _) => Some(of),
-            _ => None,
-        }
+        self.global(number).map(|(of, _)| of)
     }
 
     // The term of the global of a number.
     pub(crate) fn global_term(self, number: u32) -> Option<u32>
         ensures declared_term { result ≡ global_term_at self.entry.rows.now number }
     {
-        match self.row(Section::Globals, number)? {
-            Row::Global(_, _, term) => Some(term),
-            _ => None,
-        }
+        self.global(number).map(|(_, term)| term)
     }
 
     // The term of a number.

@@ -11,7 +11,7 @@ use super::admitting::admit_all;
 use super::library::Library;
 use super::listing::Listing;
 use super::refusal::{MountFault, fault_of_row};
-use faults::{LibraryFault, TypingFault};
+use faults::TypingFault;
 use rows::{Row, Tally};
 use std::alloc::Global;
 
@@ -26,7 +26,7 @@ fn drafted(heap: Global, rows: &[Row]) -> Result<Library, MountFault>
     };
     let term_facts = listing.facts_of_terms(heap)?;
     if let Some(place) = listing.first_broken(&term_facts) {
-        return Err(fault_of_row(place, LibraryFault::Typing(TypingFault::Definition)));
+        return Err(fault_of_row(place, TypingFault::Definition.into()));
     }
     Ok(Library {
         rows: rows.to_vec(heap)?,

@@ -1,9 +1,11 @@
 //! The type of a term, from those of the terms before it.
 ghost use Rattle.std.specs.Prelude.{◌≡◌};
 ghost use Rattle.library.specs.Facts.{type_numbers};
-ghost use Rattle.library.specs.Inference.{form_named, is_int, type_of, wanted};
+ghost use Rattle.library.specs.Inference.{first_part, form_named, is_int, second_part, type_of, wanted};
+ghost use Rattle.library.specs.declared.wanted.Wanted.TheVariants.{Number};
 ghost use Rattle.rows.specs.declared.forms.TermForm.TheVariants.{App, If};
 ghost use Rattle.std.specs.List.{slice_get};
+ghost use Rattle.std.specs.Option.{option_map};
 
 use super::facts::TermFacts;
 use super::listing::Listing;
@@ -31,6 +33,17 @@ impl Listing<'_> {
         ensures int_form { result ≡ is_int self.entry.rows.now (slice_get (type_numbers known.now) term) }
     {
         self.form_so_far(known, term) == Some(TypeForm::Int)
+    }
+
+    // The types of the parts of an earlier term, where it is a pair.
+    fn parts_so_far(self, known: &[TermFacts], term: u32) -> Option<(u32, u32)>
+        ensures first_of_pair { option_map (λ p. Number p.0) result ≡ first_part (form_named self.entry.rows.now (slice_get (type_numbers known.now) term)) }
+        ensures second_of_pair { option_map (λ p. Number p.1) result ≡ second_part (form_named self.entry.rows.now (slice_get (type_numbers known.now) term)) }
+    {
+        match self.form_so_far(known, term)? {
+            TypeForm::Pair(first, second) => Some((first, second)),
+            _ => None,
+        }
     }
 
     // The type of a call: that of the function's result, where it takes this argument.
@@ -86,14 +99,14 @@ impl Listing<'_> {
                 let first = type_number_at(known, a)?;
                 Some(Wanted::Form(TypeForm::Pair(first, type_number_at(known, b)?)))
             }
-            TermForm::Fst(a) => match self.form_so_far(known, a)? {
-                TypeForm::Pair(first, _) => Some(Wanted::Number(first)),
-                _ => None,
-            },
-            TermForm::Snd(a) => match self.form_so_far(known, a)? {
-                TypeForm::Pair(_, second) => Some(Wanted::Number(second)),
-                _ => None,
-            },
+            TermForm::Fst(a) => {
+                let (first, _) = self.parts_so_far(known, a)?;
+                Some(Wanted::Number(first))
+            }
+            TermForm::Snd(a) => {
+                let (_, second) = self.parts_so_far(known, a)?;
+                Some(Wanted::Number(second))
+            }
             TermForm::App(f, a) => self.type_of_call(known, f, a),
             TermForm::If(c, a, b) => self.type_of_branches(known, c, a, b),
             TermForm::Let(x, a, b) => {

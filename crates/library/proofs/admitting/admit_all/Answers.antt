@@ -9,7 +9,7 @@ use Rattle.library.proofs.Steps.{blank, place_few, text_refused}
 use Rattle.library.proofs.admitting.admit_all.Goals as goal
 
 pub map_err-requires : goal.map_err-requires
-map_err-requires c = λ fault is held ended. place_few c.args.rows.now c.loop-place.place c.loop-place.auto.place-end c.loop-place.invariant.0
+map_err-requires c = λ fault is held ended _. place_few c.args.rows.now c.loop-place.place c.loop-place.auto.place-end c.loop-place.invariant.0
 
 pub returns-in_err-tally : goal.returns-in_err-tally
 returns-in_err-tally c =

@@ -26,7 +26,7 @@ pub returns-in-Some : goal.returns-in-Some
 returns-in-Some c =
     let given = c.in_ok-tally.ensures.tally_or_first_fault in
     let found = found_through c.args.rows.now _ _ c.deref.ensures.value c.in_ok-term_facts.ensures.facts_or_first_fault in
-    record { library_or_first_fault = answered c.args.rows.now (Err c.fault_of_row.result) (refused_by c.args.rows.now given.0 _ _ found c.in-Some.place (sym c.in-Some.ensures.all_before_stand) _ c.fault_of_row.ensures.fault_at_line) }
+    record { library_or_first_fault = answered c.args.rows.now (Err c.fault_of_row.result) (refused_by c.args.rows.now given.0 _ _ found c.in-Some.place (sym c.in-Some.ensures.all_before_stand) _ (let told = c.into.ensures in rw told at c.fault_of_row.ensures.fault_at_line)) }
 
 pub invariant_of-result : goal.invariant_of-result
 invariant_of-result c =
