@@ -20,6 +20,7 @@ pub(crate) fn type_number_at(known: &[TermFacts], term: u32) -> Option<u32>
     known.get(term as usize).map(|facts| facts.type_number)
 }
 
+// What is known of the terms comes beside the listing: it grows with each term, so a struct of both would be made anew for each.
 impl Listing<'_> {
     // The form of an earlier term's type.
     fn form_so_far(self, known: &[TermFacts], term: u32) -> Option<TypeForm>

@@ -9,7 +9,8 @@ use reader::read;
 use rows::{Counts, Row};
 use text::first_line;
 
-// A fault of the library with its line in the whole input: two lines come before it, and 0 stays 0.
+// A fault of the library with its line in the whole input: two lines come before it, and 0 stays 0. It is no `From`, since
+// faults of these types also convert at the same place.
 fn in_whole_input(found: Placed<TextFault>) -> Placed<PlayFault>
     requires few_lines { found.place ≤ 2000 }
     ensures two_lines_later { result ≡ in_input found }

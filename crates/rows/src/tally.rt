@@ -11,6 +11,7 @@ pub struct Counts {
     pub terms: u32,
 }
 
+// The leaves stand in an array and not in a `Vec`: a tally is copied, and reading allocates nothing.
 /// The rows so far: how many each section has, and how many leaves each type has.
 #[derive(Clone, Copy)]
 pub struct Tally {

@@ -211,6 +211,7 @@ impl Tally {
         room && leaves <= 4 && self.counts.of(row.section()) < row.section().limit()
     }
 
+    // The rows before come beside the tally: they grow with each row, so a struct of both would be made anew for each call.
     /// Tries a row after the rows before, of which this is the tally, for the faults of order, reference, limit and
     /// repeat. A row without fault gives the tally with it. `room` tells whether there is a place to keep it.
     pub fn admit(self, before: &[Row], room: bool, row: Row) -> Result<Tally, TextFault>

@@ -90,6 +90,7 @@ pub fn signed_word(field: &[u8]) -> Option<i32>
     }
 }
 
+// The bytes are compared by `==`: this is its name for callers.
 /// Whether a field is just the bytes of a word.
 pub fn spells(word: &[u8], field: &[u8]) -> bool
     ensures same_bytes { result ≡ bytes_eq word.now field.now }
@@ -204,6 +205,7 @@ pub struct Fields<'a> {
     rest: Option<&'a [u8]>,
 }
 
+// The words of the specification see the fields by `remaining` and not by a model: a struct with a model and a lifetime is not `Copy`.
 impl<'a> Fields<'a> {
     /// All fields of a line, which is handed in without its line feed.
     pub fn of(line: &'a [u8]) -> Self
