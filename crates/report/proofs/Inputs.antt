@@ -2,27 +2,19 @@
 use Rattle.std.proofs.Common.{◌≡◌, ℕ, ◌<◌, List, [], ◌∷◌, ◌++◌, length, Ok, Err, Result, sym, ap, ◌∙◌, subst, inl, inr, ⊎_elim, arith, length-append}
 use Rattle.faults.specs.declared.Placed.{Placed}
 use Rattle.faults.specs.declared.PlayFault.{PlayFault}
+use Rattle.rows.specs.declared.tally.Counts.{Counts}
 use Rattle.text.specs.Slots.{Lacks}
-use Rattle.reader.proofs.Unique.{first_feed, has_feed, one_answer}
+use Rattle.reader.proofs.Unique.{first_feed, has_feed}
 use Rattle.heads.specs.Lines as heads
 use Rattle.heads.specs.Arithmetics.{ArithmeticAnswer}
 use Rattle.heads.specs.Plays.{PlayAnswer}
 use Rattle.heads.proofs.Arithmetics.{only_arithmetic}
 use Rattle.heads.proofs.Plays.{only_play}
-use Rattle.report.specs.Input.{Answer, FirstCut, HeadAnswer, InputAnswer, LibraryAnswer, Only, Passed, PlayAndLibrary, Refused, in_input, most_rows, refused_at}
-
--- the library has one answer
-pub only_library : (text : List ℕ) (answer : Answer) → LibraryAnswer text answer → Only (LibraryAnswer text) answer
-only_library text (Ok counts) h (Ok other) k =
-    let same = (one_answer most_rows text (Ok other) (Ok counts) k.0 h.0 k.1 h.1).0 in
-    let one : other ≡ counts = cc in
-    ap Ok one
-only_library text (Ok counts) h (Err other) k = let same = (one_answer most_rows text (Err k.0) (Ok counts) k.1 h.0 k.2 h.1).0 in cc
-only_library text (Err placed) h (Ok other) k = let same = (one_answer most_rows text (Ok other) (Err h.0) k.0 h.1 k.1 h.2).0 in cc
-only_library text (Err placed) h (Err other) k =
-    let same = (one_answer most_rows text (Err k.0) (Err h.0) k.1 h.1 k.2 h.2).0 in
-    let one : k.0 ≡ h.0 = cc in
-    ap Err (k.3 ∙ ap in_input one ∙ sym h.3)
+use Rattle.report.specs.declared.refusal.InputFault.{InputFault}
+use Rattle.report.specs.declared.refusal.InputFault.TheVariants.{Refused as InputRefused, Memory as InputMemory}
+use Rattle.report.specs.Input.{Answer, FirstCut, HeadAnswer, InputAnswer, LibraryAnswer, Only, Passed, PlayAndLibrary, Refused, refused_at}
+use Rattle.report.specs.Results.{IfAnswered}
+use Rattle.report.proofs.Libraries.{only_library}
 
 -- a text that is cut after its first line is not empty, and has a line feed
 cut_some : (text line rest : List ℕ) → FirstCut text line rest → text ≡ [] → ⊥
@@ -79,3 +71,9 @@ module _ {Value : Type 0} (line_answer : List ℕ → Result Value PlayFault →
 
   pub head_passed : (rest : List ℕ) (answer : Answer) → Passed says text rest → ((line : List ℕ) (r : Result Value PlayFault) → says line r → line_answer (line ++ (10 ∷ [])) r) → after rest answer → HeadAnswer line_answer place after text answer
   head_passed rest answer h means next = inr (inr (inr (h.line, rest, h.value, h.cut, means h.line (Ok h.value) h.said, next)))
+
+-- what holds of the answer of a result
+pub if_answered : (result : Result Counts InputFault) (P Q : Answer → Type 0) → ((answer : Answer) → P answer → Q answer) → IfAnswered result P → IfAnswered result Q
+if_answered (Ok counts) P Q means h = means (Ok counts) h
+if_answered (Err (InputRefused placed)) P Q means h = means (Err placed) h
+if_answered (Err InputMemory) P Q means h = tt

@@ -1,15 +1,20 @@
 -- The whole input: a line that names an arithmetic, a line that names the bounds of play, and a library; and how it is
--- answered. Assumes nothing.
+-- answered: the library is read, and the rows that were read are mounted. Assumes nothing.
 use Rattle.std.specs.Prelude.{◌≡◌, ℕ, zero, suc, ◌+◌, ◌<◌, ◌⊎◌, List, [], ◌∷◌, ◌++◌, length, Ok, Err, Result}
 use Rattle.faults.specs.declared.Placed.{Placed}
 use Rattle.faults.specs.declared.TextFault.{TextFault}
 use Rattle.faults.specs.declared.TextFault.TheVariants.{Form}
+use Rattle.faults.specs.declared.LibraryFault.{LibraryFault}
 use Rattle.faults.specs.declared.PlayFault.{PlayFault}
 use Rattle.faults.specs.declared.PlayFault.TheVariants.{Text}
+use Rattle.faults.specs.Numbers.{as_play, in_library}
 use Rattle.rows.specs.declared.forms.Row.{Row}
 use Rattle.rows.specs.declared.tally.Counts.{Counts}
 use Rattle.text.specs.Slots.{Lacks}
 use Rattle.reader.specs.Text.{Reads}
+use Rattle.library.specs.declared.refusal.MountFault.{MountFault}
+use Rattle.library.specs.declared.refusal.MountFault.TheVariants.{Refused as MountRefused, Memory as MountMemory}
+use Rattle.library.specs.Mounting.{Mounts}
 use Rattle.heads.specs.Arithmetics.{ArithmeticAnswer}
 use Rattle.heads.specs.Plays.{PlayAnswer}
 
@@ -30,16 +35,33 @@ abbrev pub line_in_input : ℕ → ℕ
 line_in_input zero = 0
 line_in_input (suc n) = suc n + 2
 
-abbrev pub in_input : Placed TextFault → Placed PlayFault
-in_input placed = record { place = line_in_input placed.place; fault = Text placed.fault }
+-- a fault of the library, as a fault of play at its line in the whole input
+abbrev pub in_input : Placed LibraryFault → Placed PlayFault
+in_input found = record { place = line_in_input found.place; fault = as_play found.fault }
 
--- the answer to the library, over as many rows as all sections together may have
+-- the rows of a library, as many as all sections together may have
 abbrev pub most_rows : ℕ
 most_rows = 1232
 
+-- the text is refused by reading, for this fault
+abbrev pub RefusedByReading : List ℕ → Placed LibraryFault → Type 0
+RefusedByReading text found = (told : Placed TextFault) × (rows : List Row) × Reads most_rows text (Err told) rows × (found ≡ in_library told)
+
+-- the text is read as rows that are refused by mounting, for this fault
+abbrev pub RefusedByMounting : List ℕ → Placed LibraryFault → Type 0
+RefusedByMounting text found = (counts : Counts) × (rows : List Row) × Reads most_rows text (Ok counts) rows × Mounts rows (Err (MountRefused found))
+
+-- what comes of a library's text by itself: the count of each section, where it is read as rows that mount; else the first
+-- fault at its line in the library, of reading or, where it can be read, of mounting. Of want of memory nothing is said
+abbrev pub TextMounts : List ℕ → Result Counts MountFault → Type 0
+TextMounts text (Ok counts) = (rows : List Row) × Reads most_rows text (Ok counts) rows × Mounts rows (Ok tt)
+TextMounts text (Err (MountRefused found)) = RefusedByReading text found ⊎ RefusedByMounting text found
+TextMounts text (Err MountMemory) = Unit {0}
+
+-- the answer to the library: its counts where it mounts, or its first fault at its line in the whole input
 abbrev pub LibraryAnswer : List ℕ → Answer → Type 0
-LibraryAnswer text (Ok counts) = (rows : List Row) × Reads most_rows text (Ok counts) rows
-LibraryAnswer text (Err placed) = (found : Placed TextFault) × (rows : List Row) × Reads most_rows text (Err found) rows × (placed ≡ in_input found)
+LibraryAnswer text (Ok counts) = TextMounts text (Ok counts)
+LibraryAnswer text (Err placed) = (found : Placed LibraryFault) × TextMounts text (Err (MountRefused found)) × (placed ≡ in_input found)
 
 -- line is the first line of text without its line feed, and rest is what follows
 pub record FirstCut (text line rest : List ℕ) : Type 0 where

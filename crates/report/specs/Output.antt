@@ -4,9 +4,9 @@ use Rattle.faults.specs.Numbers.{play_number}
 use Rattle.text.specs.Slots.{Slot, literal, number, printed}
 use Rattle.report.specs.Input.{Answer}
 
--- `read` with the count of each section, or `refused` with the number of the fault and its line
+-- `mounted` with the count of each section, or `refused` with the number of the fault and its line
 abbrev pub answer_slots : Answer → List Slot
-answer_slots (Ok counts) = literal (codes "read") ∷ number counts.types ∷ number counts.variables ∷ number counts.methods ∷ number counts.globals ∷ number counts.terms ∷ []
+answer_slots (Ok counts) = literal (codes "mounted") ∷ number counts.types ∷ number counts.variables ∷ number counts.methods ∷ number counts.globals ∷ number counts.terms ∷ []
 answer_slots (Err placed) = literal (codes "refused") ∷ number (play_number placed.fault) ∷ number placed.place ∷ []
 
 abbrev pub answer_line : Answer → List ℕ

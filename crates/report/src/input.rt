@@ -1,34 +1,66 @@
 //! The answer to a whole input: the two head lines, then the library.
-ghost use Rattle.report.specs.Input.{InputAnswer, LibraryAnswer, Only, Passed, Refused, in_input, most_rows};
+ghost use Rattle.report.specs.Input.{InputAnswer, LibraryAnswer, Passed, Refused, TextMounts, most_rows};
+ghost use Rattle.report.specs.Results.{IfAnswered, NearRows, fault_in_input};
 ghost use Rattle.std.specs.Fn.{FnOnceReturnsAt};
-ghost use Rattle.std.specs.Prelude.{◌≡◌, ℕ, ◌≤◌, List, MatchResult, length};
+ghost use Rattle.std.specs.Prelude.{◌≡◌, ℕ, ◌+◌, ◌≤◌, List, IfErr, MatchResult, length};
 
+use super::refusal::InputFault;
 use faults::{Placed, PlayFault, TextFault};
 use heads::{arithmetic_line, play_line};
+use library::{Library, MountFault};
 use reader::read;
 use rows::{Counts, Row};
+use std::alloc::Global;
 use text::first_line;
 
-// A fault of the library with its line in the whole input: two lines come before it, and 0 stays 0. It is no `From`, since
-// faults of these types also convert at the same place.
-fn in_whole_input(found: Placed<TextFault>) -> Placed<PlayFault>
-    requires few_lines { found.place ≤ 2000 }
-    ensures two_lines_later { result ≡ in_input found }
+// The fault of a library with its line in the whole input: two lines come before it, and 0 stays 0.
+fn in_whole_input(fault: MountFault) -> InputFault
+    requires few_lines { NearRows fault }
+    ensures two_lines_later { result ≡ fault_in_input fault }
 {
-    let place = if found.place == 0 { 0 } else { found.place + 2 };
-    Placed {
-        place,
-        fault: found.fault.into(),
+    match fault {
+        MountFault::Refused(found) => {
+            let place = if found.place == 0 { 0 } else { found.place + 2 };
+            let fault = found.fault.into();
+            InputFault::Refused(Placed { place, fault })
+        }
+        MountFault::Memory => InputFault::Memory,
     }
 }
 
-// The answer to a library.
-fn library_answer(text: &[u8], rows: &mut [Row]) -> Result<Counts, Placed<PlayFault>>
-    requires enough_rows { length rows.old ≡ most_rows }
-    ensures answer { LibraryAnswer text.now result }
-    ensures only_answer { Only (LibraryAnswer text.now) result }
+// How many rows were read.
+fn row_count(counts: Counts) -> usize
+    requires few_rows { counts.types + counts.variables + counts.methods + counts.globals + counts.terms ≤ most_rows }
+    ensures all_sections { result ≡ counts.types + counts.variables + counts.methods + counts.globals + counts.terms }
 {
-    read(text, rows).map_err(in_whole_input)
+    let Counts {
+        types,
+        variables,
+        methods,
+        globals,
+        terms,
+    } = counts;
+    (types + variables + methods + globals + terms) as usize
+}
+
+// Reads the text of a library and mounts its rows.
+fn mounted(heap: Global, text: &[u8], rows: &mut [Row]) -> Result<Counts, MountFault>
+    requires enough_rows { length rows.old ≡ most_rows }
+    ensures counts_or_first_fault { TextMounts text.now result }
+    ensures near_rows { IfErr result NearRows }
+{
+    let counts = read(text, rows).map_err(|found| MountFault::Refused(found.into()))?;
+    let mut library = Library::empty(heap);
+    library.mount(&rows[..row_count(counts)])?;
+    Ok(counts)
+}
+
+// The answer to a library.
+fn library_answer(heap: Global, text: &[u8], rows: &mut [Row]) -> Result<Counts, InputFault>
+    requires enough_rows { length rows.old ≡ most_rows }
+    ensures answer { IfAnswered result (LibraryAnswer text.now) }
+{
+    mounted(heap, text, rows).map_err(in_whole_input)
 }
 
 // The text after a head line that its reader takes.
@@ -56,12 +88,11 @@ fn after_head<T: Drop, F: FnOnce(&[u8]) -> Result<T, PlayFault>>(
 }
 
 // The answer to a whole input, over rows enough for every library.
-pub(crate) fn answer(input: &[u8], rows: &mut [Row]) -> Result<Counts, Placed<PlayFault>>
+pub(crate) fn answer(heap: Global, input: &[u8], rows: &mut [Row]) -> Result<Counts, InputFault>
     requires enough_rows { length rows.old ≡ most_rows }
-    ensures answer { InputAnswer input.now result }
-    ensures only_answer { Only (InputAnswer input.now) result }
+    ensures answer { IfAnswered result (InputAnswer input.now) }
 {
     let rest = after_head(input, 1, arithmetic_line)?;
     let library = after_head(rest, 2, play_line)?;
-    library_answer(library, rows)
+    library_answer(heap, library, rows)
 }

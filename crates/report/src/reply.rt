@@ -24,7 +24,7 @@ impl fmt::Display for Reply {
                     globals,
                     terms,
                 },
-            ) => writeln!(f, "read,{types},{variables},{methods},{globals},{terms}"),
+            ) => writeln!(f, "mounted,{types},{variables},{methods},{globals},{terms}"),
             Err(Placed { place, fault }) => {
                 let number = fault.number();
                 writeln!(f, "refused,{number},{place}")
