@@ -23,8 +23,8 @@ def refused(number, line):
     return "refused,%d,%d" % (number, line)
 
 
-def read(types=0, variables=0, methods=0, globals_=0, terms=0):
-    return "read,%d,%d,%d,%d,%d" % (types, variables, methods, globals_, terms)
+def mounted(types=0, variables=0, methods=0, globals_=0, terms=0):
+    return "mounted,%d,%d,%d,%d,%d" % (types, variables, methods, globals_, terms)
 
 
 # Example libraries
@@ -42,7 +42,8 @@ ADD_THEN_SUBTRACT_ONE = [
     "term,5,assert,4", "term,6,lam,0,5",
 ]
 
-# One row of each form, in order; every row is acceptable.
+# One row of each form, in order. It reads, and every term has a listed type; method 1, at line 9 of the input, has a term
+# that is not there.
 EVERY_FORM = [
     "type,0,unit", "type,1,int", "type,2,pair,0,1", "type,3,fun,2,1", "var,0,2",
     "method,0,abstract,3", "method,1,public,3,65535", "method,2,private,3,14", "global,0,1,1",
@@ -129,6 +130,33 @@ def longest_library():
     return rows
 
 
+def sound_methods(count):
+    """A library that has this many abstract methods, each of a function type."""
+    return ["type,0,int", "type,1,fun,0,0"] + ["method,%d,abstract,1" % n for n in range(count)]
+
+
+def sound_globals(count):
+    """A library that has this many globals, each an int with a number."""
+    return ["type,0,int"] + ["global,%d,0,0" % n for n in range(count)] + ["term,0,num,1"]
+
+
+def typed_terms(count):
+    """A library that has this many terms, each of a listed type."""
+    return ["type,0,int"] + ["term,%d,num,%d" % (n, n) for n in range(count)]
+
+
+def full_library():
+    """A well-typed library with every section full: numbers and their comparison, each under a function of the last type."""
+    rows = many_types(64)
+    rows += ["var,%d,62" % n for n in range(64)]
+    rows += ["method,%d,private,63,1022" % n for n in range(64)]
+    rows += ["global,%d,63,1022" % n for n in range(16)]
+    rows += ["term,0,num,-2147483648", "term,1,op,equal,0,0"]
+    for number in range(2, 1024, 2):
+        rows += ["term,%d,lam,63,%d" % (number, number - 1), "term,%d,op,equal,%d,%d" % (number + 1, number - 1, number - 1)]
+    return rows
+
+
 def padded(before, size, padding, after="\n"):
     """The text, then as much padding as makes the library this long, then the end."""
     fill = size - len(before) - len(after)
@@ -138,12 +166,12 @@ def padded(before, size, padding, after="\n"):
 # The cases, by subject. Each is a name, the input and the line to be printed.
 
 def examples():
-    yield "callback_asserts_flag", HEAD + lines(*CALLBACK_ASSERTS_FLAG), read(3, 2, 2, 1, 11)
-    yield "add_then_subtract_one", "arith,word,-1,1\nplay,1,1,64\n" + lines(*ADD_THEN_SUBTRACT_ONE), read(3, 1, 1, 0, 7)
-    yield "every_form", HEAD + lines(*EVERY_FORM), read(4, 1, 3, 1, 19)
-    yield "small_library", HEAD + lines(*SMALL), read(3, 2, 1, 1, 2)
-    yield "empty_library", HEAD, read()
-    yield "terms_only", HEAD + lines("term,0,unit"), read(terms=1)
+    yield "callback_asserts_flag", HEAD + lines(*CALLBACK_ASSERTS_FLAG), mounted(3, 2, 2, 1, 11)
+    yield "add_then_subtract_one", "arith,word,-1,1\nplay,1,1,64\n" + lines(*ADD_THEN_SUBTRACT_ONE), mounted(3, 1, 1, 0, 7)
+    yield "every_form", HEAD + lines(*EVERY_FORM), refused(18, 9)
+    yield "small_library", HEAD + lines(*SMALL), mounted(3, 2, 1, 1, 2)
+    yield "empty_library", HEAD, mounted()
+    yield "terms_only", HEAD + lines("term,0,unit"), refused(17, 3)
 
 
 def forms():
@@ -190,7 +218,7 @@ def numbers():
     for name, field in bad_words.items():
         yield name, after_small("term,2,num," + field), refused(11, NEXT_LINE)
     for name, field in [("greatest_word", "2147483647"), ("least_word", "-2147483648"), ("minus_one", "-1"), ("zero", "0")]:
-        yield name, after_small("term,2,num," + field), read(3, 2, 1, 1, 3)
+        yield name, after_small("term,2,num," + field), mounted(3, 2, 1, 1, 3)
     yield "minus_one_as_reference", after_small("term,2,fst,-1"), refused(11, NEXT_LINE)
     yield "needless_zero_in_reference", after_small("term,2,fst,01"), refused(11, NEXT_LINE)
     yield "running_number_65536", after_small("term,65536,unit"), refused(11, NEXT_LINE)
@@ -198,8 +226,7 @@ def numbers():
     yield "reference_65536", after_small("term,2,fst,65536"), refused(11, NEXT_LINE)
     yield "reference_65535", after_small("term,2,fst,65535"), refused(13, NEXT_LINE)
     for section, row in [("method", "method,0,public,2,%d"), ("global", "global,0,2,%d")]:
-        counts = read(3, methods=int(section == "method"), globals_=int(section == "global"))
-        yield "term_of_%s_65535" % section, after_types(row % 65535), counts
+        yield "term_of_%s_65535" % section, after_types(row % 65535), refused(18, 6)
         yield "term_of_%s_65536" % section, after_types(row % 65536), refused(11, 6)
 
 
@@ -221,7 +248,7 @@ def references():
     for name, row in [("pair", "type,3,pair,%d,%d"), ("function", "type,3,fun,%d,%d")]:
         yield "%s_of_itself_left" % name, after_types(row % (3, 0)), refused(13, 6)
         yield "%s_of_itself_right" % name, after_types(row % (0, 3)), refused(13, 6)
-        yield "%s_of_last_types" % name, after_types(row % (2, 2)), read(4)
+        yield "%s_of_last_types" % name, after_types(row % (2, 2)), mounted(4)
     for section, row in [("variable", "var,0,%d"), ("method", "method,0,abstract,%d"), ("global", "global,0,%d,0")]:
         yield "%s_of_unknown_type" % section, after_types(row % 3), refused(13, 6)
     unknown = {
@@ -243,25 +270,36 @@ def references():
 def limits():
     words = {16: "sixteen", 17: "seventeen", 64: "sixty_four", 65: "sixty_five", 1024: "most", 1025: "too_many"}
     names = {"type": "types", "var": "variables", "method": "methods", "global": "globals", "term": "terms"}
+    # A full section reads. An abstract method of type int is no method, a global without a term is none, and unit is not
+    # listed: mounting refuses the first row after the type, at line 4.
+    full_sections = {
+        "type": mounted(64), "var": mounted(1, 64), "method": refused(18, 4), "global": refused(18, 4), "term": refused(17, 4),
+    }
     for section, limit in LIMITS.items():
         full = section_of(section, limit)
-        counts = [len([row for row in full if row.startswith(word + ",")]) for word in LIMITS]
-        yield "%s_%s" % (words[limit], names[section]), HEAD + lines(*full), read(*counts)
+        yield "%s_%s" % (words[limit], names[section]), HEAD + lines(*full), full_sections[section]
         over = section_of(section, limit + 1)
         yield "%s_%s" % (words[limit + 1], names[section]), HEAD + lines(*over), refused(14, HEAD_LINES + len(over))
+    yield "sixty_four_sound_methods", HEAD + lines(*sound_methods(64)), mounted(2, 0, 64)
+    yield "sixty_five_sound_methods", HEAD + lines(*sound_methods(65)), refused(14, 69)
+    yield "sixteen_sound_globals", HEAD + lines(*sound_globals(16)), mounted(1, 0, 0, 16, 1)
+    yield "seventeen_sound_globals", HEAD + lines(*sound_globals(17)), refused(14, 20)
+    yield "most_typed_terms", HEAD + lines(*typed_terms(1024)), mounted(1, terms=1024)
+    yield "too_many_typed_terms", HEAD + lines(*typed_terms(1025)), refused(14, 1028)
+    yield "every_section_full", HEAD + lines(*full_library()), mounted(64, 64, 64, 16, 1024)
     two = ["type,0,unit", "type,1,pair,0,0"]
-    yield "four_leaves", HEAD + lines(*two, "type,2,pair,1,1"), read(3)
-    yield "four_leaves_in_a_chain", HEAD + lines(*two, "type,2,pair,1,0", "type,3,pair,0,2"), read(4)
+    yield "four_leaves", HEAD + lines(*two, "type,2,pair,1,1"), mounted(3)
+    yield "four_leaves_in_a_chain", HEAD + lines(*two, "type,2,pair,1,0", "type,3,pair,0,2"), mounted(4)
     yield "five_leaves", HEAD + lines(*two, "type,2,pair,1,1", "type,3,pair,0,2"), refused(14, 6)
     yield "five_leaves_from_three_and_two", HEAD + lines(*two, "type,2,pair,1,0", "type,3,pair,2,1"), refused(14, 6)
-    yield "function_is_one_leaf", HEAD + lines(*two, "type,2,pair,1,1", "type,3,fun,2,2", "type,4,pair,3,3"), read(5)
+    yield "function_is_one_leaf", HEAD + lines(*two, "type,2,pair,1,1", "type,3,fun,2,2", "type,4,pair,3,3"), mounted(5)
 
 
 def repeats():
     listed = ["type,0,unit", "type,1,int", "type,2,pair,0,1", "type,3,fun,0,1"]
     for name, form in [("unit", "unit"), ("int", "int"), ("pair", "pair,0,1"), ("function", "fun,0,1")]:
         yield name + "_listed_twice", HEAD + lines(*listed, "type,4," + form), refused(15, 7)
-    yield "parts_the_other_way_round", HEAD + lines(*listed, "type,4,pair,1,0", "type,5,fun,1,0"), read(6)
+    yield "parts_the_other_way_round", HEAD + lines(*listed, "type,4,pair,1,0", "type,5,fun,1,0"), mounted(6)
 
 
 def two_faults():
@@ -298,7 +336,7 @@ def settings():
         "counter_top_65535": "counter,65535,65535,65535",
     }
     for name, kind in allowed.items():
-        yield name, "arith," + kind + "\n" + PLAY, read()
+        yield name, "arith," + kind + "\n" + PLAY, mounted()
     outside = {
         "host_words_4097": "word,-2048,2048", "low_above_high": "word,1,0", "all_words": "word,-2147483648,2147483647",
         "counter_host_words_4097": "counter,65535,0,4096", "counter_top_0": "counter,0,0,0",
@@ -328,7 +366,7 @@ def bounds():
         "steps_1": "2,1,1", "steps_2048": "2,1,2048",
     }
     for name, numbers_ in allowed.items():
-        yield name, ARITH + "play," + numbers_ + "\n", read()
+        yield name, ARITH + "play," + numbers_ + "\n", mounted()
     outside = {
         "depth_17": "17,1,64", "insistence_9": "2,9,64", "steps_0": "2,1,0", "steps_2049": "2,1,2049",
         "depth_65535": "65535,1,64",
@@ -363,27 +401,14 @@ def lengths():
     yield "text_32768_line_feeds", HEAD + padded("", MOST_BYTES, "\n"), refused(10, 3)
     yield "text_32769_line_feeds", HEAD + padded("", MOST_BYTES + 1, "\n"), refused(14, 0)
     yield "text_100000_bytes", HEAD + padded(first, 100000, "x"), refused(14, 0)
-    yield "longest_library", HEAD + lines(*longest_library()), read(64, 64, 64, 16, 1024)
+    # The longest text reads. Its first term is a number, and int is not listed: there are 208 rows before it.
+    yield "longest_library", HEAD + lines(*longest_library()), refused(17, 211)
     too_many = longest_library() + ["term,1024,unit"]
     yield "longest_library_and_one_term", HEAD + lines(*too_many), refused(14, HEAD_LINES + len(too_many))
     yield "head_number_of_40000_digits", "arith,word,0," + "1" * 40000 + "\n" + PLAY, refused(11, 1)
 
 
-SUBJECTS = [
-    examples, forms, numbers, orders, references, limits, repeats, two_faults,
-    settings, bounds, missing_lines, lengths,
-]
-
-
-def all_cases():
-    """All cases as (name, input bytes, line to be printed); no name twice."""
-    cases = [(name, encoded(text), answer) for subject in SUBJECTS for name, text, answer in subject()]
-    names = [name for name, _, _ in cases]
-    assert len(set(names)) == len(names), "a name stands twice"
-    return cases
-
-
-# Libraries that can be read, and what comes of mounting them
+# Libraries that read, by what comes of mounting them. Each is a name, the rows and the line to be printed.
 
 # 4 types, 3 variables, 1 method, 1 global, 4 terms; all of it well typed.
 TYPED = [
@@ -393,19 +418,18 @@ TYPED = [
 TYPED_NEXT = HEAD_LINES + len(TYPED) + 1
 
 
-def mounted(*counts):
-    return "mounted," + ",".join(str(count) for count in counts)
+def form_name(word, form):
+    """The name of a case of one more term: the word, and the fields of the term's form."""
+    return "_".join([word] + form.split(","))
 
 
 def well_typed():
-    yield "callback_asserts_flag", CALLBACK_ASSERTS_FLAG, mounted(3, 2, 2, 1, 11)
-    yield "add_then_subtract_one", ADD_THEN_SUBTRACT_ONE, mounted(3, 1, 1, 0, 7)
-    yield "empty_library", [], mounted(0, 0, 0, 0, 0)
+    yield "add_then_subtract_one_over_zero", ADD_THEN_SUBTRACT_ONE, mounted(3, 1, 1, 0, 7)
     for form in [
         "get,0", "lam,0,0", "set,0,0", "op,less,0,0", "pair,1,0", "fst,2", "snd,2", "app,3,1",
         "if,0,1,1", "if,0,2,2", "let,1,0,2", "let,2,2,2", "assert,0", "var,0",
     ]:
-        yield "typed_" + form, TYPED + ["term,4," + form], mounted(4, 3, 1, 1, 5)
+        yield form_name("typed", form), TYPED + ["term,4," + form], mounted(4, 3, 1, 1, 5)
 
 
 def result_types():
@@ -416,7 +440,7 @@ def result_types():
         ("var,1", True), ("var,0", False), ("lam,0,0", False), ("pair,1,0", False), ("meth,0", False),
     ]:
         answer = mounted(4, 3, 1, 1, 6) if is_int else refused(16, TYPED_NEXT + 1)
-        yield "asserted_" + form, TYPED + ["term,4," + form, "term,5,assert,4"], answer
+        yield form_name("asserted", form), TYPED + ["term,4," + form, "term,5,assert,4"], answer
 
 
 def broken_rules():
@@ -424,7 +448,7 @@ def broken_rules():
         "set,0,1", "op,add,1,0", "op,add,0,1", "fst,0", "snd,3", "app,0,0", "app,3,0", "app,2,1",
         "if,1,0,0", "if,0,0,1", "let,0,0,1", "let,1,2,0", "assert,1", "assert,2",
     ]:
-        yield "broken_" + form, TYPED + ["term,4," + form], refused(16, TYPED_NEXT)
+        yield form_name("broken", form), TYPED + ["term,4," + form], refused(16, TYPED_NEXT)
     without_unit = ["type,0,int", "type,1,fun,0,0", "method,0,abstract,1", "global,0,0,0", "term,0,meth,0"]
     yield "assert_rule_before_list", without_unit + ["term,1,assert,0"], refused(16, 8)
     yield "set_rule_before_list", without_unit + ["term,1,set,0,0"], refused(16, 8)
@@ -497,7 +521,55 @@ def closed_bodies():
         yield name, start + ["method,0,public,1,%d" % (len(terms) - 1)] + terms, answer
 
 
-def mount_cases():
-    """The cases of mounting as (name, input bytes, line to be printed)."""
-    subjects = [well_typed, result_types, broken_rules, unlisted_types, definitions, closed_bodies]
-    return [(name, encoded(HEAD + lines(*rows)), answer) for subject in subjects for name, rows, answer in subject()]
+def changed_example():
+    """The first example with one row changed."""
+    changes = [
+        ("set_to_assertion", "term,4,set,0,3", "term,4,set,0,2", refused(16, 15)),
+        ("callback_of_number", "term,7,app,6,5", "term,7,app,6,0", refused(16, 18)),
+        ("pair_in_place_of_let", "term,8,let,1,4,7", "term,8,pair,4,7", refused(17, 19)),
+        ("callback_of_type_unit", "method,0,abstract,2", "method,0,abstract,0", refused(16, 18)),
+        ("method_of_body", "method,1,public,2,10", "method,1,public,2,9", refused(18, 9)),
+        ("flag_of_get", "global,0,1,0", "global,0,1,1", refused(18, 10)),
+    ]
+    for name, row, other, answer in changes:
+        assert row in CALLBACK_ASSERTS_FLAG
+        yield name, [other if each == row else each for each in CALLBACK_ASSERTS_FLAG], answer
+
+
+TEXT_SUBJECTS = [
+    examples, forms, numbers, orders, references, limits, repeats, two_faults,
+    settings, bounds, missing_lines, lengths,
+]
+MOUNT_SUBJECTS = [well_typed, result_types, broken_rules, unlisted_types, definitions, closed_bodies, changed_example]
+
+
+def all_cases():
+    """All cases as (name, input bytes, line to be printed); no name twice."""
+    cases = [(name, encoded(text), answer) for subject in TEXT_SUBJECTS for name, text, answer in subject()]
+    cases += [(name, encoded(HEAD + lines(*rows)), answer) for subject in MOUNT_SUBJECTS for name, rows, answer in subject()]
+    names = [name for name, _, _ in cases]
+    assert len(set(names)) == len(names), "a name stands twice"
+    return cases
+
+
+# What the program of cases prints behind the named cases: the first example read into few rows, and rows made by hand
+# mounted one after the other.
+ROW_LINES = [
+    "24 rows: read with 11 terms, 5 rows stay",
+    "19 rows: read with 11 terms, 5 rows stay",
+    "18 rows: refused,14,19, 6 rows stay",
+    "0 rows: refused,14,1, 24 rows stay",
+    "0 rows: read with 0 terms, 24 rows stay",
+    "0 rows: refused,10,1, 24 rows stay",
+    "by hand: mounted, held 0,0,0,0,0",
+    "by hand: mounted, held 1,1,0,0,0",
+    "by hand: refused,11,2, held 1,1,0,0,0",
+    "by hand: refused,12,2, held 1,1,0,0,0",
+    "by hand: refused,13,2, held 1,1,0,0,0",
+    "by hand: refused,14,4, held 1,1,0,0,0",
+    "by hand: refused,15,2, held 1,1,0,0,0",
+    "by hand: refused,16,3, held 1,1,0,0,0",
+    "by hand: refused,17,1, held 1,1,0,0,0",
+    "by hand: refused,18,2, held 1,1,0,0,0",
+    "by hand: mounted, held 1,0,0,0,1",
+]

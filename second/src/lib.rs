@@ -14,16 +14,10 @@ use library::{Library, Section};
 /// How many lines stand before the library.
 const HEAD_LINES: usize = 2;
 
-/// The line to print for an input, which is only read or also mounted.
-pub fn answer(input: &[u8], with_mounting: bool) -> String {
-    let result = if with_mounting {
-        mount(input)
-    } else {
-        read(input)
-    };
-    match result {
-        Ok(library) if with_mounting => format!("mounted,{}", row_counts(&library)),
-        Ok(library) => format!("read,{}", row_counts(&library)),
+/// The line to print for an input, whose library is read and mounted.
+pub fn answer(input: &[u8]) -> String {
+    match mount(input) {
+        Ok(library) => format!("mounted,{}", row_counts(&library)),
         Err(refusal) => refusal.to_string(),
     }
 }

@@ -1,4 +1,5 @@
-//! Answers each input that the file `names` lists, and prints its name with the answer; then reads into few rows.
+//! Answers each input that the file `names` lists, and prints its name with the answer; then reads into few rows, and mounts
+//! rows made by hand.
 #![tactic(auto)]
 
 use anyhow::{Context, ensure};
@@ -8,6 +9,8 @@ use report::report;
 use rows::{Counts, Row};
 use std::fs;
 use text::first_line;
+
+mod by_hand;
 
 // Reads a text into the first of 24 rows that hold something else, and prints the answer and how many rows stayed.
 fn into_rows(rt: &HostRuntime, text: &[u8], room: usize) -> anyhow::Result<()> {
@@ -47,5 +50,6 @@ fn main(rt: HostRuntime) -> anyhow::Result<()> {
         let answer = report(rt.alloc(), &input)?;
         print!(rt; "{name} {answer}")?;
     }
-    few_rows(&rt)
+    few_rows(&rt)?;
+    by_hand::mounted_by_hand(&rt)
 }
