@@ -1,4 +1,5 @@
-//! Reads two head lines and a library from standard input, and prints how many rows were read, or the first fault.
+//! Reads two head lines and a library from standard input, mounts the library, and prints how many rows it has, or the first
+//! fault.
 #![tactic(auto)]
 
 use report::report;

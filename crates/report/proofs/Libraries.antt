@@ -1,18 +1,22 @@
 -- The text of a library has one answer, and what mounting says of its rows is said of it. Assumes nothing.
 use Rattle.std.proofs.Math.Seq.{take-append_seam}
-use Rattle.std.proofs.Common.{◌≡◌, ℕ, ◌+◌, List, ◌++◌, length, take, drop, Ok, Err, sym, ap, ◌∙◌, subst, inl, inr, arith, rules}
+use Rattle.std.proofs.Common.{◌≡◌, ℕ, ◌+◌, List, ◌++◌, length, take, drop, Ok, Err, sym, refl, ap, ◌∙◌, subst, inl, inr, arith, rules}
 use Rattle.faults.specs.declared.Placed.{Placed}
 use Rattle.faults.specs.declared.LibraryFault.{LibraryFault}
+use Rattle.faults.specs.declared.LibraryFault.TheVariants.{Text, Typing}
+use Rattle.faults.specs.declared.TypingFault.{TypingFault}
 use Rattle.faults.specs.declared.TextFault.{TextFault}
 use Rattle.faults.specs.Numbers.{in_library}
 use Rattle.rows.specs.declared.forms.Row.{Row}
 use Rattle.rows.specs.declared.tally.Counts.{Counts}
+use Rattle.rows.specs.Faults.{Faultless}
 use Rattle.reader.specs.Text.{Reads}
 use Rattle.reader.proofs.Unique.{one_answer}
 use Rattle.library.specs.declared.refusal.MountFault.{MountFault}
 use Rattle.library.specs.declared.refusal.MountFault.TheVariants.{Refused as MountRefused, Memory as MountMemory}
-use Rattle.library.specs.Mounting.{Mounts}
+use Rattle.library.specs.Mounting.{FaultAt, Mounts}
 use Rattle.library.proofs.Lists.{nth_inside}
+use Rattle.library.proofs.Sorted.{good_at}
 use Rattle.library.proofs.Trials.{one_first}
 use Rattle.report.specs.Input.{Answer, LibraryAnswer, Only, TextMounts, in_input, most_rows}
 use Rattle.report.specs.Results.{NearRows}
@@ -71,10 +75,16 @@ only_library text (Err placed) h (Err other) k = ap Err (k.2 ∙ ap in_input (on
 rows_first : (text : List ℕ) (counts : Counts) (filled rows old : List Row) (n : ℕ) → Reads most_rows text (Ok counts) filled → rows ≡ filled ++ drop (length filled) old → n ≡ counts.types + counts.variables + counts.methods + counts.globals + counts.terms → take n rows ≡ filled
 rows_first text counts filled rows old n reads is total = ap (λ k. take k rows) (total ∙ reads.2) ∙ ap (take (length filled)) is ∙ take-append_seam filled (drop (length filled) old)
 
+-- a fault of rows that have none of the text is one of typing
+typing_fault : (rows : List Row) (i : ℕ) (fault : LibraryFault) → Faultless rows → FaultAt rows i fault → (told : TypingFault) × (fault ≡ Typing told)
+typing_fault rows i (Text fault) fine h = absurd (good_at rows fine i h.0 h.1 fault h.2)
+typing_fault rows i (Typing fault) fine h = (fault, refl)
+
 -- what mounting says of rows that were read, said of their text
 pub refused_by_mounting : (text : List ℕ) (counts : Counts) (filled rows old : List Row) (n : ℕ) (fault : MountFault) → Reads most_rows text (Ok counts) filled → rows ≡ filled ++ drop (length filled) old → n ≡ counts.types + counts.variables + counts.methods + counts.globals + counts.terms → Mounts (take n rows) (Err fault) → TextMounts text (Err fault) × NearRows fault
 refused_by_mounting text counts filled rows old n (MountRefused found) reads is total mounts =
     let told = subst (λ rs. Mounts rs (Err (MountRefused found))) (rows_first text counts filled rows old n reads is total) mounts in
     let inside = nth_inside filled told.0 told.2.holds.0 told.2.holds.1 in
-    (inr (counts, filled, reads, told), omega (arith, told.1, inside, reads.0.fits))
+    let typing = typing_fault filled told.0 found.fault reads.0.faultless told.2.holds in
+    (inr (counts, filled, reads, told, typing.0, typing.1), omega (arith, told.1, inside, reads.0.fits))
 refused_by_mounting text counts filled rows old n MountMemory reads is total mounts = (tt, tt)

@@ -4,7 +4,9 @@ use Rattle.std.specs.Prelude.{◌≡◌, ℕ, zero, suc, ◌+◌, ◌<◌, ◌�
 use Rattle.faults.specs.declared.Placed.{Placed}
 use Rattle.faults.specs.declared.TextFault.{TextFault}
 use Rattle.faults.specs.declared.TextFault.TheVariants.{Form}
+use Rattle.faults.specs.declared.TypingFault.{TypingFault}
 use Rattle.faults.specs.declared.LibraryFault.{LibraryFault}
+use Rattle.faults.specs.declared.LibraryFault.TheVariants.{Typing}
 use Rattle.faults.specs.declared.PlayFault.{PlayFault}
 use Rattle.faults.specs.declared.PlayFault.TheVariants.{Text}
 use Rattle.faults.specs.Numbers.{as_play, in_library}
@@ -47,9 +49,9 @@ most_rows = 1232
 abbrev pub RefusedByReading : List ℕ → Placed LibraryFault → Type 0
 RefusedByReading text found = (told : Placed TextFault) × (rows : List Row) × Reads most_rows text (Err told) rows × (found ≡ in_library told)
 
--- the text is read as rows that are refused by mounting, for this fault
+-- the text is read as rows that are refused by mounting, for this fault, which is one of typing
 abbrev pub RefusedByMounting : List ℕ → Placed LibraryFault → Type 0
-RefusedByMounting text found = (counts : Counts) × (rows : List Row) × Reads most_rows text (Ok counts) rows × Mounts rows (Err (MountRefused found))
+RefusedByMounting text found = (counts : Counts) × (rows : List Row) × Reads most_rows text (Ok counts) rows × Mounts rows (Err (MountRefused found)) × (told : TypingFault) × (found.fault ≡ Typing told)
 
 -- what comes of a library's text by itself: the count of each section, where it is read as rows that mount; else the first
 -- fault at its line in the library, of reading or, where it can be read, of mounting. Of want of memory nothing is said

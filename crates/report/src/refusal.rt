@@ -5,7 +5,7 @@ ghost use Rattle.std.specs.Prelude.{◌≡◌};
 use faults::{Placed, PlayFault};
 
 /// An input is refused for a fault at a line, or memory has run out.
-#[derive(Clone, Copy, PartialEq, Eq, Debug)]
+#[derive(Clone, Copy)]
 pub(crate) enum InputFault {
     /// The first fault of the input, at its line.
     Refused(Placed<PlayFault>),
