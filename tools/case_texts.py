@@ -317,6 +317,8 @@ def two_faults():
     yield "order_before_limit", HEAD + lines(*five_leaves, "type,4,pair,2,2"), refused(12, 6)
     yield "number_before_reference", HEAD + lines("var,0,65536"), refused(11, 3)
     yield "earlier_line_before_later", HEAD + lines("type,0,int", "type,1,int", "nothing"), refused(15, 4)
+    yield "form_before_typing", HEAD + lines(*SMALL, "term,2,fst,0", "nothing"), refused(10, NEXT_LINE + 1)
+    yield "reference_before_typing", HEAD + lines(*SMALL, "term,2,fst,0", "term,3,fst,9"), refused(13, NEXT_LINE + 1)
     yield "head_form_before_number", "arith,word,+1\n" + PLAY, refused(10, 1)
     yield "head_number_before_settings", "arith,counter,0,0,+1\n" + PLAY, refused(11, 1)
     yield "play_form_before_number", ARITH + "play,+1,1\n", refused(10, 2)
