@@ -13,7 +13,8 @@ use rows::{Counts, Row};
 use std::alloc::Global;
 use text::first_line;
 
-// The fault of a library with its line in the whole input: two lines come before it, and 0 stays 0.
+// The fault of a library with its line in the whole input: two lines come before it, and 0 stays 0. It is no `From`, since it
+// moves the line.
 fn in_whole_input(fault: MountFault) -> InputFault
     requires few_lines { NearRows fault }
     ensures two_lines_later { result ≡ fault_in_input fault }
