@@ -10,18 +10,19 @@ import subprocess
 import sys
 
 OPTION_BY_HAND = re.compile(
-    r"(None|_) => None,|None => (false|return\b)|_ => false,|Err\(\w+\) => (return )?Err\(|Err\(\w+\) => at\(|None => Err\(|"
-    r"Some\((\w+)\) => (Some|Ok)\((\w+::)*\w*\(?\3\b|Ok\((\w+)\) => Ok\(\5\)|\.is_(err|none|some)\(\)|let (Some|Ok)\(.*\bel"
-    r"se \{$"
+    r"(None|_) => None,|None => (false|0|return\b)|_ => (false|Err\()|Some\(_\) => None|Err\(\w+\) => (return )?Err\(|Err\(\w+\) => at\(|"
+    r"None => (Err|Some)\(|Some\((\w+)\) => (Some|Ok)\((\w+::)*\w*\(?\5\b|Ok\((\w+)\) => Ok\(\8\)|\.is_err\(\)|"
+    r"let (Some|Ok)\(.*\belse \{$"
 )
 NUMBER_CODE = re.compile(r"(-> u8\b|\w+_code\b|Result<[^>]*, u\d+>)")
 FLAG = re.compile(r"\b\w+: bool\b")
 LOOP = re.compile(r"^\s*(for|while|loop)\b.*\{$")
 BY_HAND = re.compile(
     r"^impl.*\b(PartialEq|Eq|Ord|PartialOrd|Clone|Copy|Debug|Hash|Default)\b.* for |\bformat!\(|"
-    r"^\s*(pub(\(crate\))? )?fn (same\w*|spells|lists|is_spelled|is_lam|is_num|is_function|is_empty_set|is_type|in_whole_input|printed|\w+_line)\(\w+: .*\) -> "
+    r"^\s*(pub(\(crate\))? )?fn (same\w*|spells|lists|is_spelled|is_lam|is_num|is_function|is_empty_set|is_type|in_whole_input|printed|"
+    r"read_line|refused_line)\("
 )
-BUFFER = re.compile(r"^\s*(pub(\(crate\))? )?\w+: (\[\w+; \w+\]|Vec<u\d+>|&'\w+ \[u\d+\])|^\s*(pub(\(crate\))? )?\w+: u(32|64),? *// bits|\b1 << |\^ \(")
+BUFFER = re.compile(r"^\s*(pub(\(crate\))? )?\w+: (\[\w+; \w+\]|Vec<u\d+>|&'\w+ \[u\d+\])|\b1 << |\^ \(|^\s*(pub(\(crate\))? )?bits: u\d+")
 CONTRADICTION = re.compile(r"◌≡◌ \{A = ℕ\} 0 1 = cc")
 
 

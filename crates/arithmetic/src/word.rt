@@ -58,7 +58,8 @@ impl Arithmetic for Word {
 impl HostWords for Word {
     ghost list = { λ w. ascending w.host.lo w.host.hi };
 
-    // The range answers both calls. Each kind passes them on: an impl for all kinds with a range would keep others from lists of their own.
+    // The range answers both calls, and each kind passes them on: one impl for all kinds with a range would need a third trait
+    // with a law of its own, and more lines than it saves.
     ghost listed = { λ a. ascending_listed _ _ a.host.limits _ (λ z. refl) };
 
     // The number of words of the host's range.

@@ -13,7 +13,7 @@ impl Keyword for Operation {
     ghost found = { Prim.search rules };
 
     // All operations.
-    fn all() -> &'static [Operation] {
+    fn all<'a>() -> &'a [Operation] {
         &[
             Operation::Add,
             Operation::Sub,

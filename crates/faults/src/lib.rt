@@ -7,7 +7,7 @@ ghost use Rattle.faults.specs.declared.PlayFault.TheVariants.{Text};
 ghost use Rattle.faults.specs.Numbers.{as_play, in_library, in_play, library_number, play_number, taken_in, text_number, typing_number};
 ghost use Rattle.std.specs.Prelude.{◌≡◌};
 
-/// A fault with its place: a line, or 0 where no line fits. It is a number, as it is printed.
+/// A fault with its place: a line, or 0 where no line fits. The place is a number and no `Option`, since 0 is what is printed.
 #[derive(Clone, Copy, PartialEq, Eq, Debug)]
 pub struct Placed<F> {
     pub place: u32,

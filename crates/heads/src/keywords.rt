@@ -19,7 +19,7 @@ impl Keyword for KindWord {
     ghost found = { Prim.search rules };
 
     // The kinds in the order of the table.
-    fn all() -> &'static [KindWord] {
+    fn all<'a>() -> &'a [KindWord] {
         &[KindWord::Word, KindWord::Counter]
     }
 

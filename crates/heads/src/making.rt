@@ -21,16 +21,16 @@ impl HeadLine for Settings {
 
     ghost making = { Made };
 
-    // The word of the line and a kind, and as many fields as the kind has numbers.
+    // The word of the line and a kind, and as many fields as the kind has numbers. Only this line begins with two words, so
+    // they are looked up here.
     fn formed(fields: Fields) -> bool {
-        let Some((word, numbers)) = after_word(b"arith", fields).and_then(Fields::split) else {
-            return false;
-        };
-        match keyword_of::<KindWord>(word) {
-            Some(KindWord::Word) => numbers.count() == 2,
-            Some(KindWord::Counter) => numbers.count() == 3,
-            None => false,
-        }
+        after_word(b"arith", fields)
+            .and_then(Fields::split)
+            .is_some_and(|(word, numbers)| match keyword_of::<KindWord>(word) {
+                Some(KindWord::Word) => numbers.count() == 2,
+                Some(KindWord::Counter) => numbers.count() == 3,
+                None => false,
+            })
     }
 
     // The settings after the word of the line.

@@ -11,10 +11,9 @@ ghost use Rattle.rows.specs.Types.{Tree, leaves, types};
 ghost use Rattle.std.specs.List.{slice_get};
 ghost use Rattle.std.specs.Option.{option_map};
 
-use super::facts::TermFacts;
+use super::facts::KnownTerms;
 use super::library::Library;
 use super::listing::Listing;
-use super::typing::type_number_at;
 use rows::{Counts, MethodForm, Row, Tally, TermForm, TypeForm};
 
 impl Library {
@@ -30,11 +29,14 @@ impl Library {
         }
     }
 
-    // What is found of all terms.
-    fn term_facts(&self) -> &[TermFacts]
-        ensures types_of_terms { (t : ℕ) (n : Option ℕ) → n ≡ slice_get (type_numbers result.now) t → MatchOption n (term_at (library_rows self.now) t ≡ None) (λ k. (type : Tree) × (slice_get (types (library_rows self.now)) k ≡ Some type) × HasType (library_rows self.now) t type) }
+    // The rows, with what is found of all terms.
+    fn known_terms(&self) -> KnownTerms
+        ensures types_of_terms { (t : ℕ) (n : Option ℕ) → n ≡ slice_get (type_numbers result.facts.now) t → MatchOption n (term_at (library_rows self.now) t ≡ None) (λ k. (type : Tree) × (slice_get (types (library_rows self.now)) k ≡ Some type) × HasType (library_rows self.now) t type) }
     {
-        &self.term_facts
+        KnownTerms {
+            listing: self.listing(),
+            facts: &self.term_facts,
+        }
     }
 
     /// The rows of the library. They are well-formed and well-typed, its methods are closed functions of their declared
@@ -123,6 +125,6 @@ impl Library {
     pub fn term_type(&self, number: u32) -> Option<u32>
         ensures type_of_term { MatchOption result (term_at (library_rows self.now) number ≡ None) (λ n. (type : Tree) × (slice_get (types (library_rows self.now)) n ≡ Some type) × HasType (library_rows self.now) number type) }
     {
-        type_number_at(self.term_facts(), number)
+        self.known_terms().type_number(number)
     }
 }

@@ -5,12 +5,13 @@ ghost use Rattle.library.specs.Inference.{TypedBy};
 ghost use Rattle.library.specs.Listing.{section_rows};
 ghost use Rattle.library.specs.Mounting.{Mounts};
 ghost use Rattle.library.specs.Scopes.{ScopedBy};
+ghost use Rattle.std.specs.List.{slice_get};
+ghost use Rattle.std.specs.Option.{option_map};
 ghost use Rattle.rows.specs.Faults.{Faultless};
 ghost use Rattle.rows.specs.declared.forms.Section.TheVariants.{Terms};
 
 use super::listing::Listing;
 use super::refusal::{MountFault, fault_of_row};
-use super::scopes::free_in;
 use super::variables::VariableSet;
 use rows::Row;
 use std::alloc::Global;
@@ -22,22 +23,44 @@ pub(crate) struct TermFacts {
     pub(crate) free: VariableSet,
 }
 
+// A listing, with what is known of its first terms.
+#[derive(Clone, Copy)]
+pub(crate) struct KnownTerms<'rows, 'facts> {
+    pub(crate) listing: Listing<'rows>,
+    pub(crate) facts: &'facts [TermFacts],
+}
+
+impl KnownTerms<'_, '_> {
+    // What is known of an earlier term.
+    pub(crate) fn facts_of(self, term: u32) -> Option<TermFacts>
+        ensures known_type { option_map (λ facts. facts.type_number) result ≡ slice_get (type_numbers self.entry.facts.now) term }
+        ensures known_set { option_map (λ facts. facts.free.bits) result ≡ slice_get (free_sets self.entry.facts.now) term }
+    {
+        // With `copied()` in place of the `?` no proof of the two clauses was found.
+        Some(*self.facts.get(term as usize)?)
+    }
+}
+
 impl Listing<'_> {
     // The types and the free variables of all terms, or the first fault of a term's typing.
     pub(crate) fn facts_of_terms(self, heap: Global) -> Result<Vec<TermFacts>, MountFault>
         requires faultless { Faultless self.rows.now }
         ensures facts_or_first_fault { MatchResult result (λ known. TypedBy self.entry.rows.now (type_numbers known.items) × ScopedBy self.entry.rows.now (free_sets known.items) × (length known.items ≡ length (section_rows Terms self.entry.rows.now))) (λ fault. Mounts self.entry.rows.now (Err fault)) }
     {
-        let mut known: Vec<TermFacts> = Vec::new(heap);
+        let mut found: Vec<TermFacts> = Vec::new(heap);
         for (place, row) in self.rows.iter().enumerate() {
             if let Row::Term(_, form) = *row {
-                let type_number = self
-                    .type_of(&known, form)
+                let known = KnownTerms {
+                    listing: self,
+                    facts: &found,
+                };
+                let type_number = known
+                    .type_of(form)
                     .map_err(move |fault| fault_of_row(place, fault.into()))?;
-                let free = free_in(&known, form);
-                known.push(TermFacts { type_number, free })?;
+                let free = known.free_in(form);
+                found.push(TermFacts { type_number, free })?;
             }
         }
-        Ok(known)
+        Ok(found)
     }
 }

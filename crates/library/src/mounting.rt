@@ -8,6 +8,7 @@ ghost use Rattle.library.specs.declared.refusal.MountFault.TheVariants.{Memory};
 ghost use Rattle.std.specs.Prelude.{◌≡◌, [], Ok, Err, Result, MatchResult, OnOk, ◌≢◌};
 
 use super::admitting::admit_all;
+use super::facts::KnownTerms;
 use super::library::Library;
 use super::listing::Listing;
 use super::refusal::{MountFault, fault_of_row};
@@ -25,7 +26,11 @@ fn drafted(heap: Global, rows: &[Row]) -> Result<Library, MountFault>
         counts: tally.counts(),
     };
     let term_facts = listing.facts_of_terms(heap)?;
-    if let Some(place) = listing.first_broken(&term_facts) {
+    let known = KnownTerms {
+        listing,
+        facts: &term_facts,
+    };
+    if let Some(place) = known.first_broken() {
         return Err(fault_of_row(place, TypingFault::Definition.into()));
     }
     Ok(Library {

@@ -5,6 +5,7 @@ ghost use Rattle.library.specs.Scopes.{only, without};
 // A set of variables, which have numbers below 64.
 #[derive(Clone, Copy, PartialEq, Eq)]
 pub(crate) struct VariableSet {
+    // One bit for each variable, of which there are at most 64, so that a set is copied and allocates nothing.
     bits: u64,
     ghost word: { bits < 2 ^ 64 },
 }

@@ -38,10 +38,10 @@ pub(crate) fn form_of<W: FormWord>(fields: Fields) -> Option<W::Form>
 pub(crate) fn has_form<W: FormWord>(fields: Fields) -> bool
     ensures value { result ≡ formed_from W.Keyword.spelled W.Keyword.table W.fitting (remaining fields.entry) }
 {
+    // By `let` and `match`: of a closure that calls a bound's method, `is_some_and` tells the proof too little.
     let Some((word, parts)) = fields.split() else {
         return false;
     };
-    // Kept as a match: of a closure that calls a bound's method, `is_some_and` tells the proof too little.
     match keyword_of::<W>(word) {
         Some(word) => word.takes(parts),
         None => false,

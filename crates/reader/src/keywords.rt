@@ -49,7 +49,7 @@ impl Keyword for TypeWord {
     ghost found = { Prim.search rules };
 
     // All words of types, in the order of the table.
-    fn all() -> &'static [TypeWord] {
+    fn all<'a>() -> &'a [TypeWord] {
         &[TypeWord::Unit, TypeWord::Int, TypeWord::Pair, TypeWord::Fun]
     }
 
@@ -72,7 +72,7 @@ impl Keyword for MethodWord {
     ghost found = { Prim.search rules };
 
     // All words of methods, in the order of the table.
-    fn all() -> &'static [MethodWord] {
+    fn all<'a>() -> &'a [MethodWord] {
         &[
             MethodWord::Abstract,
             MethodWord::Public,
@@ -98,7 +98,7 @@ impl Keyword for TermWord {
     ghost found = { Prim.search rules };
 
     // All words of terms, in the order of the table.
-    fn all() -> &'static [TermWord] {
+    fn all<'a>() -> &'a [TermWord] {
         &[
             TermWord::Unit,
             TermWord::Num,

@@ -1,4 +1,5 @@
-//! The rows of a library, one for each line of its text.
+//! The rows of a library, one for each line of its text. They name types, variables, methods, globals and terms by number,
+//! as the text does, and not as trees: rows are handed in as they were read.
 use arithmetic::Operation;
 
 /// A section of the rows. Sections follow one another in this order.

@@ -13,7 +13,7 @@ impl Keyword for Section {
     ghost found = { Prim.search rules };
 
     // All sections, in their order.
-    fn all() -> &'static [Section] {
+    fn all<'a>() -> &'a [Section] {
         &[
             Section::Types,
             Section::Variables,

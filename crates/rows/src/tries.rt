@@ -147,8 +147,7 @@ impl Tally {
     pub fn counts(self) -> Counts
         ensures counts_of_tally { result ≡ self.counts }
     {
-        let Tally { counts, .. } = self;
-        counts
+        self.counts
     }
 
     /// The leaves of the type of a number, or none past the last type.
@@ -211,7 +210,7 @@ impl Tally {
         room && leaves <= 4 && self.counts.of(row.section()) < row.section().limit()
     }
 
-    // The rows before come beside the tally: they grow with each row, so a struct of both would be made anew for each call.
+    // The rows before come beside the tally and not in a struct with it: whoever calls writes the next row between two calls.
     /// Tries a row after the rows before, of which this is the tally, for the faults of order, reference, limit and
     /// repeat. A row without fault gives the tally with it. `room` tells whether there is a place to keep it.
     pub fn admit(self, before: &[Row], room: bool, row: Row) -> Result<Tally, TextFault>

@@ -6,14 +6,13 @@ use Rattle.std.specs.Fmt.{signed_decimal}
 use Rattle.std.specs.List.{AllByRecursion}
 use Rattle.std.specs.Str.{all_ascii_digits, bytes_eq}
 use Rattle.std.proofs.lemmas.Slice.Eq.{bytes_eq-Decides}
-use Rattle.std.proofs.lemmas.List.{same_from_push}
 use Rattle.std.proofs.lemmas.Fmt.{digits_decimal, digits_value-decimal, decimal_nonempty}
 use Rattle.std.proofs.ByRecursion.{All-from_get_or}
 use Rattle.std.proofs.lemmas.Str.Parse.{IsNumeralModel, numerals_by_fold, not_in_digits}
 use Rattle.std.proofs.lemmas.Bool.{eqb-true, eqb-false, ne_eqb, leb-true, le-leb, ltb-true, lt-ltb, and_parts, and_from, cond-false}
 use Rattle.text.specs.Slots
 use Rattle.text.specs.Slots.{Slot, written, InRange, Lacks, Free, commas, line_of}
-use Rattle.text.specs.Reading.{in_front, cut, given, read_on, number_of, signed_value, word_of, keyword_of, both, all_three, one_number, two_numbers, three_numbers}
+use Rattle.text.specs.Reading.{in_front, cut, given, read_on, number_of, signed_value, word_of, keyword_of, all_three, three_numbers}
 
 -- a byte in front of the fields is a byte in front of their line
 commas_in_front : (t : Bool) (b : ℕ) (fs : List (List ℕ)) → (t ≡ true → b ≡ 44) → 0 < length fs → commas (in_front t b fs) ≡ b ∷ commas fs
@@ -72,10 +71,6 @@ cut_commas f (g ∷ fs) h = cut_front f (commas (g ∷ fs)) h.0.0 ∙ ap (λ t. 
 pub commas_same : (f g : List ℕ) (fs gs : List (List ℕ)) → AllByRecursion Free (f ∷ fs) → AllByRecursion Free (g ∷ gs) → commas (f ∷ fs) ≡ commas (g ∷ gs) → ◌≡◌ {A = List (List ℕ)} (f ∷ fs) (g ∷ gs)
 commas_same f g fs gs h k e = sym (cut_commas f fs h) ∙ ap cut e ∙ cut_commas g gs k
 
--- and so are those with the same line
-pub line_same : (f g : List ℕ) (fs gs : List (List ℕ)) → AllByRecursion Free (f ∷ fs) → AllByRecursion Free (g ∷ gs) → line_of (f ∷ fs) ≡ line_of (g ∷ gs) → ◌≡◌ {A = List (List ℕ)} (f ∷ fs) (g ∷ gs)
-line_same f g fs gs h k e = commas_same f g fs gs h k (same_from_push (commas (f ∷ fs)) (commas (g ∷ gs)) 10 10 e).0
-
 -- nothing is not something
 pub none_some : {X : Type 0} (x : X) → ◌≡◌ {A = Option X} None (Some x) → ⊥
 none_some x e = cc
@@ -125,10 +120,6 @@ number_exact bs n e =
     let P : ℕ → Type 0 = λ v. (v ≤ 65535) × (decimal v ≡ bs) in
     subst P p.1 (leb-true _ _ q.0, (bytes_eq-Decides (decimal (read_on 0 bs)) bs).0 q.1)
 
--- no number is read only where the bytes are no decimal of a number in range
-pub number_none : (bs : List ℕ) → number_of bs ≡ None → (n : ℕ) → n ≤ 65535 → decimal n ≡ bs → ⊥
-number_none bs e n h d = none_some n (sym e ∙ ap number_of (sym d) ∙ number_written n h)
-
 -- an answer that is exact, and is there where one can be, is the number of the bytes
 pub number_is : (bs : List ℕ) (r : Option ℕ) → MatchOption r ((n : ℕ) → n ≤ 65535 → decimal n ≡ bs → ⊥) (λ n. (n ≤ 65535) × (decimal n ≡ bs)) → r ≡ number_of bs
 number_is bs (Some n) h = sym (number_written n h.0) ∙ ap number_of h.1
@@ -158,10 +149,6 @@ word_exact bs z e =
     let q = and_parts (ltb (mag (signed_value bs)) (2 ^ 31)) (bytes_eq (signed_decimal (signed_value bs)) bs) p.0 in
     let P : ℤ → Type 0 = λ v. SFits w32 v × (signed_decimal v ≡ bs) in
     subst P p.1 (record { sfits = ltb-true _ _ q.0 }, (bytes_eq-Decides (signed_decimal (signed_value bs)) bs).0 q.1)
-
--- no word is read only where the bytes are no signed decimal of a word of 32 bits
-pub word_none : (bs : List ℕ) → word_of bs ≡ None → (z : ℤ) → SFits w32 z → signed_decimal z ≡ bs → ⊥
-word_none bs e z h d = none_some z (sym e ∙ ap word_of (sym d) ∙ word_written z h)
 
 -- an answer that is exact, and is there where one can be, is the word of the bytes
 pub word_is : (bs : List ℕ) (r : Option ℤ) → MatchOption r ((z : ℤ) → SFits w32 z → signed_decimal z ≡ bs → ⊥) (λ z. SFits w32 z × (signed_decimal z ≡ bs)) → r ≡ word_of bs
@@ -200,13 +187,6 @@ written_free (Slots.word (negsuc n)) range free =
     let small : suc n < 2 ^ 64 = omega (arith, range.sfits) in
     (((λ e. omega arith), decimal_lacks 44 (suc n) small (λ d. omega arith)), ((λ e. omega arith), decimal_lacks 10 (suc n) small (λ d. omega arith)))
 
-both_says : (x y : Option ℕ) (a b : ℕ) → both x y ≡ Some (a, b) → (x ≡ Some a) × (y ≡ Some b)
-both_says None y a b e = cc
-both_says (Some p) None a b e = cc
-both_says (Some p) (Some q) a b e =
-    let d : ◌≡◌ {A = ℕ × ℕ} (p, q) (a, b) = cc in
-    (ap (λ (t : ℕ × ℕ). Some t.0) d, ap (λ (t : ℕ × ℕ). Some t.1) d)
-
 three_says : (x y z : Option ℕ) (a b c : ℕ) → all_three x y z ≡ Some (a, b, c) → (x ≡ Some a) × (y ≡ Some b) × (z ≡ Some c)
 three_says None y z a b c e = cc
 three_says (Some p) None z a b c e = cc
@@ -214,31 +194,6 @@ three_says (Some p) (Some q) None a b c e = cc
 three_says (Some p) (Some q) (Some r) a b c e =
     let d : ◌≡◌ {A = ℕ × ℕ × ℕ} (p, q, r) (a, b, c) = cc in
     (ap (λ (t : ℕ × ℕ × ℕ). Some t.0) d, ap (λ (t : ℕ × ℕ × ℕ). Some t.1) d, ap (λ (t : ℕ × ℕ × ℕ). Some t.2) d)
-
--- one number in range is read from its decimal
-pub one_written : (a : ℕ) → a ≤ 65535 → one_number (decimal a ∷ []) ≡ Some a
-one_written a h = number_written a h
-
--- the one number that is read is in range, and its decimal is the one field
-pub one_exact : (fs : List (List ℕ)) (a : ℕ) → one_number fs ≡ Some a → (fs ≡ decimal a ∷ []) × (a ≤ 65535)
-one_exact [] a e = cc
-one_exact (f ∷ []) a e = let h = number_exact f a e in (ap (λ t. t ∷ []) (sym h.1), h.0)
-one_exact (f ∷ g ∷ fs) a e = cc
-
--- two numbers in range are read from their decimals
-pub two_written : (a b : ℕ) → a ≤ 65535 → b ≤ 65535 → two_numbers (decimal a ∷ decimal b ∷ []) ≡ Some (a, b)
-two_written a b h k = rw (number_written a h, number_written b k) refl
-
--- the two numbers that are read are in range, and their decimals are the two fields
-pub two_exact : (fs : List (List ℕ)) (a b : ℕ) → two_numbers fs ≡ Some (a, b) → (fs ≡ decimal a ∷ decimal b ∷ []) × (a ≤ 65535) × (b ≤ 65535)
-two_exact [] a b e = cc
-two_exact (f ∷ []) a b e = cc
-two_exact (f ∷ g ∷ []) a b e =
-    let p = both_says (number_of f) (number_of g) a b e in
-    let h = number_exact f a p.0 in
-    let k = number_exact g b p.1 in
-    (rw (h.1, k.1) refl, h.0, k.0)
-two_exact (f ∷ g ∷ h ∷ fs) a b e = cc
 
 -- three numbers in range are read from their decimals
 pub three_written : (a b c : ℕ) → a ≤ 65535 → b ≤ 65535 → c ≤ 65535 → three_numbers (decimal a ∷ decimal b ∷ decimal c ∷ []) ≡ Some (a, b, c)

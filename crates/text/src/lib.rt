@@ -126,13 +126,15 @@ impl FieldValue for i32 {
 }
 
 /// Words of one kind, each by its spelling.
-pub trait Keyword: Copy + 'static {
+pub trait Keyword: Copy {
     ghost spelled: { Self → List ℕ };
 
     ghost table: { List Self };
 
     /// All words, in the order of the table.
-    fn all() -> &'static [Self]
+    fn all<'a>() -> &'a [Self]
+    where
+        Self: 'a,
         ensures all_words { result.now ≡ table };
 
     /// The bytes that the word is spelled with.
@@ -142,6 +144,7 @@ pub trait Keyword: Copy + 'static {
     ghost found: { (k : Self) → keyword_of spelled table (spelled k) ≡ Some k };
 }
 
+// Apart from `keyword_of`, whose second clause is proved from the first one.
 /// The first word of the table that a field spells.
 fn first_spelled<K: Keyword>(field: &[u8]) -> Option<K>
     ensures value { result ≡ keyword_of K.Keyword.spelled K.Keyword.table field.now }
@@ -205,7 +208,8 @@ pub struct Fields<'a> {
     rest: Option<&'a [u8]>,
 }
 
-// The words of the specification see the fields by `remaining` and not by a model: a struct with a model and a lifetime is not `Copy`.
+// The specification sees the fields by `remaining` and not by a model, since a struct with a model and a lifetime is not
+// `Copy`; and they are no iterator, since a line's fields are read twice, from one value that is copied.
 impl<'a> Fields<'a> {
     /// All fields of a line, which is handed in without its line feed.
     pub fn of(line: &'a [u8]) -> Self
@@ -226,10 +230,7 @@ impl<'a> Fields<'a> {
     pub fn count(self) -> usize
         ensures number_of_fields { result ≡ length (remaining self.entry) }
     {
-        match self.rest {
-            Some(bytes) => field_count(bytes),
-            None => 0,
-        }
+        self.rest.map_or(0, field_count)
     }
 
     /// The one field that is left; none where there are none or several.
@@ -237,12 +238,10 @@ impl<'a> Fields<'a> {
         ensures value { option_map (λ x. x.now) result ≡ only_field (remaining self.entry) }
     {
         let (field, others) = self.split()?;
-        match others.split() {
-            None => Some(field),
-            Some(_) => None,
-        }
+        others.split().is_none().then_some(field)
     }
 
+    // `one`, `two` and `three` answer tuples of different types: an array would force one type on all fields of a line.
     /// What the only field left says; none where there are none or several, or where it says no such value.
     pub fn one<V: FieldValue>(self) -> Option<V>
         ensures value { result ≡ one_value V.said (remaining self.entry) }

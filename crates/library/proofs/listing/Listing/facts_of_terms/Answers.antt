@@ -24,7 +24,7 @@ pub loop-place-preserved : goal.loop-place-preserved
 loop-place-preserved c =
     let rows = c.args.self.rows.now in
     let i = c.loop-place.place in
-    let known = vec_items c.loop-place.known in
+    let known = vec_items c.loop-place.found in
     let here = slice_get-get_or rows i blank c.loop-place-test.true in
     elim c.match-row.branch [
       | in-Term+in_ok-type_number+in_ok-push w ↦
@@ -33,11 +33,11 @@ loop-place-preserved c =
           let told : Mapped w.type_of.result turned w.map_err.result = search rules in
           let type : type_of rows (type_numbers known) w.in-Term.form ≡ Ok facts.type_number =
           ap (λ ks. type_of rows (type_numbers ks) w.in-Term.form) (sym w.deref.ensures.value) ∙ sym w.type_of.ensures.listed_type ∙ mapped_ok turned _ _ told facts.type_number w.in_ok-type_number.was in
-          let set : facts.free.bits ≡ free_in (free_sets known) w.in-Term.form = w.free_in-free.ensures.set_of_term ∙ ap (λ ks. free_in (free_sets ks) w.in-Term.form) w.deref-in-Term.ensures.value in
-          let pushed : known ++ (facts ∷ []) ≡ vec_items c.match-row.known = sym (ap vec_items w.known-is ∙ w.in_ok-push.ensures.items) in
+          let set : facts.free.bits ≡ free_in (free_sets known) w.in-Term.form = w.free_in-free.ensures.set_of_term ∙ ap (λ ks. free_in (free_sets ks) w.in-Term.form) w.deref.ensures.value in
+          let pushed : known ++ (facts ∷ []) ≡ vec_items c.match-row.found = sym (ap vec_items w.found-is ∙ w.in_ok-push.ensures.items) in
           subst (FoundSoFar rows (i + 1)) pushed (found_with rows c.requires.faultless i known c.loop-place.invariant w.in-Term.field-0 w.in-Term.form (here ∙ ap Some w.in-Term.is) facts type set)
       | in_default w ↦
-          subst (FoundSoFar rows (i + 1)) (ap vec_items (sym w.known-is)) (found_without rows c.requires.faultless i known c.loop-place.invariant _ here (λ t form e. w.in_default.not-Term t form e))
+          subst (FoundSoFar rows (i + 1)) (ap vec_items (sym w.found-is)) (found_without rows c.requires.faultless i known c.loop-place.invariant _ here (λ t form e. w.in_default.not-Term t form e))
     ]
 
 pub returns-in_err-type_number : goal.returns-in_err-type_number
@@ -49,6 +49,6 @@ returns-in_err-type_number c =
     let turned : TypingFault → MountFault = λ fault. Refused (record { place = i + 1; fault = Typing fault }) in
     let told : Mapped c.type_of.result turned c.map_err.result = search rules in
     let first = mapped_err turned _ _ told c.in_err-type_number.field-0.0 c.in_err-type_number.was in
-    let found : type_of rows (type_numbers (vec_items c.loop-place.known)) c.in-Term.form ≡ Err first.0 =
+    let found : type_of rows (type_numbers (vec_items c.loop-place.found)) c.in-Term.form ≡ Err first.0 =
     ap (λ ks. type_of rows (type_numbers ks) c.in-Term.form) (sym c.deref.ensures.value) ∙ sym c.type_of.ensures.listed_type ∙ first.1 in
-    rw (p.1, p.2) (record { facts_or_first_fault = found_refused rows c.requires.faultless i (vec_items c.loop-place.known) c.loop-place.invariant c.in-Term.field-0 c.in-Term.form at first.0 found _ first.2 })
+    rw (p.1, p.2) (record { facts_or_first_fault = found_refused rows c.requires.faultless i (vec_items c.loop-place.found) c.loop-place.invariant c.in-Term.field-0 c.in-Term.form at first.0 found _ first.2 })

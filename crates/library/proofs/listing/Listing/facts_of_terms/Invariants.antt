@@ -3,4 +3,4 @@ use Rattle.library.proofs.Steps.{FoundSoFar}
 use Rattle.library.proofs.listing.Listing.facts_of_terms.Given as goal
 
 abbrev pub invariant-loop-place : goal.invariant-loop-place
-invariant-loop-place l = FoundSoFar l.self.rows.now l.place (vec_items l.known)
+invariant-loop-place l = FoundSoFar l.self.rows.now l.place (vec_items l.found)

@@ -2,7 +2,7 @@ use Rattle.std.proofs.Common.{vec_items, ap, ◌∙◌}
 use Rattle.std.specs.List.{slice_get}
 use Rattle.library.specs.Facts.{type_numbers}
 use Rattle.library.proofs.Held.{as_many, type_cases}
-use Rattle.library.proofs.library.Library.term_facts.Goals as goal
+use Rattle.library.proofs.library.Library.known_terms.Goals as goal
 
 pub returns : goal.returns
 returns c =
