@@ -60,7 +60,7 @@ impl Arithmetic for Counter {
         x == 0
     }
 
-    // The host may say the words of its range.
+    // The host may say the words of its range, which is asked: a trait for the kinds that have one would save no line.
     fn may_say(&self, x: i32) -> bool {
         self.host.holds(x)
     }
