@@ -449,11 +449,30 @@ def broken_rules():
     for form in [
         "set,0,1", "op,add,1,0", "op,add,0,1", "fst,0", "snd,3", "app,0,0", "app,3,0", "app,2,1",
         "if,1,0,0", "if,0,0,1", "let,0,0,1", "let,1,2,0", "assert,1", "assert,2",
+        "fst,1", "fst,3", "snd,0", "snd,1", "app,1,0", "app,3,2", "if,2,0,0", "if,3,0,0", "if,0,1,0", "if,0,3,2",
+        "op,sub,1,0", "op,mul,0,1", "op,less,2,0", "op,equal,0,3", "set,0,2", "set,0,3", "let,1,1,0", "let,2,3,0",
+        "assert,3",
     ]:
         yield form_name("broken", form), TYPED + ["term,4," + form], refused(16, TYPED_NEXT)
     without_unit = ["type,0,int", "type,1,fun,0,0", "method,0,abstract,1", "global,0,0,0", "term,0,meth,0"]
     yield "assert_rule_before_list", without_unit + ["term,1,assert,0"], refused(16, 8)
     yield "set_rule_before_list", without_unit + ["term,1,set,0,0"], refused(16, 8)
+    for form in ["op,add,0,0", "if,0,0,0", "assert,0"]:
+        yield form_name("int_unlisted", form), ["type,0,unit", "term,0,unit", "term,1," + form], refused(16, 5)
+
+
+def function_types():
+    """A global of a function, and terms that take two functions which differ in the type of their argument."""
+    base = [
+        "type,0,unit", "type,1,int", "type,2,fun,0,1", "type,3,fun,1,1", "var,0,0", "var,1,1", "global,0,2,1",
+        "term,0,num,0", "term,1,lam,0,0", "term,2,var,1", "term,3,lam,1,2",
+    ]
+    yield "functions", base, mounted(4, 2, 0, 1, 4)
+    for form in ["set,0,1", "if,0,1,1"]:
+        yield form_name("functions", form), base + ["term,4," + form], mounted(4, 2, 0, 1, 5)
+    for form in ["set,0,3", "set,0,0", "if,0,1,3", "app,1,3", "let,0,1,0"]:
+        yield form_name("functions", form), base + ["term,4," + form], refused(16, 14)
+    yield "functions_app_of_get", base + ["term,4,get,0", "term,5,unit", "term,6,app,4,5"], mounted(4, 2, 0, 1, 7)
 
 
 def unlisted_types():
@@ -490,11 +509,35 @@ def definitions():
         "private_of_term_65535": "method,0,private,2,65535", "unit_global": "global,0,0,6", "pair_global": "global,0,3,0",
         "int_with_op": "global,0,1,3", "int_with_unknown_term": "global,0,1,7", "function_with_num": "global,0,2,0",
         "public_lam_of_other_type": "method,0,public,4,2", "function_with_lam_of_other_type": "global,0,4,2",
+        "abstract_unit": "method,0,abstract,0", "public_unit": "method,0,public,0,6", "private_int": "method,0,private,1,0",
+        "private_unit": "method,0,private,0,6", "private_without_lam": "method,0,private,2,1",
+        "private_of_unknown_term": "method,0,private,2,7", "private_lam_of_other_type": "method,0,private,4,2",
+        "int_with_lam": "global,0,1,2", "int_with_unit": "global,0,1,6", "function_with_unknown_term": "global,0,2,7",
     }
     for name, row in bad.items():
         yield name, start + [row] + body, refused(18, 9)
+    of_term_7 = {
+        "public_method_name": ("method,0,public,2,7", "meth,0"), "private_method_name": ("method,0,private,2,7", "meth,0"),
+        "public_let_of_lam": ("method,0,public,2,7", "let,0,0,2"), "public_pair": ("method,0,public,3,7", "pair,0,0"),
+        "function_with_get": ("global,0,2,7", "get,0"), "int_with_get": ("global,0,1,7", "get,0"),
+        "pair_global_with_pair": ("global,0,3,7", "pair,0,0"),
+    }
+    for name, (row, form) in of_term_7.items():
+        yield name, start + [row] + body + ["term,7," + form], refused(18, 9)
     yield "method_before_global", start + ["method,0,abstract,1", "global,0,0,0"] + body, refused(18, 9)
     yield "term_before_method", start + ["method,0,abstract,1"] + body + ["term,7,fst,0"], refused(16, 17)
+    yield "unlisted_before_method", start + ["method,0,abstract,1"] + body + ["term,7,pair,0,6"], refused(17, 17)
+    yield "second_global", start + ["global,0,1,0", "global,1,1,3"] + body, refused(18, 10)
+    yield "second_method", start + ["method,0,abstract,2", "method,1,abstract,1"] + body, refused(18, 10)
+
+
+def lams_of_definitions():
+    """A method or a global whose lam is of its type and isn't closed, and one whose lam has another argument."""
+    for name, row in [("function_not_closed", "global,0,1,1"), ("private_not_closed", "method,0,private,1,1")]:
+        start = ["type,0,int", "type,1,fun,0,0", "var,0,0", "var,1,0"]
+        yield name, start + [row, "term,0,var,1", "term,1,lam,0,0"], refused(18, 7)
+    start = ["type,0,int", "type,1,unit", "type,2,fun,0,0", "type,3,fun,1,0", "var,0,0"]
+    yield "lam_of_other_argument", start + ["method,0,public,3,1", "term,0,var,0", "term,1,lam,0,0"], refused(18, 8)
 
 
 def closed_bodies():
@@ -523,6 +566,26 @@ def closed_bodies():
         yield name, start + ["method,0,public,1,%d" % (len(terms) - 1)] + terms, answer
 
 
+def free_in_other_forms():
+    """A public method at line 12, whose body is the last of these terms and has a free variable."""
+    start = [
+        "type,0,int", "type,1,fun,0,0", "type,2,unit", "type,3,pair,0,0", "type,4,fun,0,2", "type,5,fun,0,3",
+        "var,0,0", "var,1,0", "var,2,3",
+    ]
+    bodies = {
+        "free_in_pair_left": (5, [], ["num,1", "var,1", "pair,1,0", "lam,0,2"]),
+        "free_in_pair_right": (5, [], ["num,1", "var,1", "pair,0,1", "lam,0,2"]),
+        "free_in_fst": (1, [], ["var,2", "fst,0", "lam,0,1"]),
+        "free_in_snd": (1, [], ["var,2", "snd,0", "lam,0,1"]),
+        "free_in_assert": (4, [], ["var,1", "assert,0", "lam,0,1"]),
+        "free_in_set": (4, ["global,0,0,0"], ["num,1", "var,1", "set,0,1", "lam,0,2"]),
+    }
+    for name, (type_, globals_, forms_) in bodies.items():
+        terms = ["term,%d,%s" % (number, form) for number, form in enumerate(forms_)]
+        method = "method,0,public,%d,%d" % (type_, len(terms) - 1)
+        yield name, start + [method] + globals_ + terms, refused(18, 12)
+
+
 def changed_example():
     """The first example with one row changed."""
     changes = [
@@ -542,7 +605,10 @@ TEXT_SUBJECTS = [
     examples, forms, numbers, orders, references, limits, repeats, two_faults,
     settings, bounds, missing_lines, lengths,
 ]
-MOUNT_SUBJECTS = [well_typed, result_types, broken_rules, unlisted_types, definitions, closed_bodies, changed_example]
+MOUNT_SUBJECTS = [
+    well_typed, result_types, broken_rules, function_types, unlisted_types, definitions, lams_of_definitions,
+    closed_bodies, free_in_other_forms, changed_example,
+]
 
 
 def all_cases():
@@ -573,5 +639,17 @@ ROW_LINES = [
     "by hand: refused,16,3, held 1,1,0,0,0",
     "by hand: refused,17,1, held 1,1,0,0,0",
     "by hand: refused,18,2, held 1,1,0,0,0",
+    "by hand: refused,11,4, held 1,1,0,0,0",
+    "by hand: refused,12,4, held 1,1,0,0,0",
+    "by hand: refused,13,4, held 1,1,0,0,0",
+    "by hand: refused,13,3, held 1,1,0,0,0",
+    "by hand: refused,16,4, held 1,1,0,0,0",
+    "by hand: refused,17,3, held 1,1,0,0,0",
+    "by hand: refused,11,2, held 1,1,0,0,0",
+    "by hand: refused,11,2, held 1,1,0,0,0",
+    "by hand: refused,11,2, held 1,1,0,0,0",
+    "by hand: refused,12,3, held 1,1,0,0,0",
+    "by hand: refused,12,2, held 1,1,0,0,0",
+    "by hand: refused,11,2, held 1,1,0,0,0",
     "by hand: mounted, held 1,0,0,0,1",
 ]
