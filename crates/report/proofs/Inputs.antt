@@ -12,8 +12,8 @@ use Rattle.heads.proofs.Arithmetics.{only_arithmetic}
 use Rattle.heads.proofs.Plays.{only_play}
 use Rattle.report.specs.declared.refusal.InputFault.{InputFault}
 use Rattle.report.specs.declared.refusal.InputFault.TheVariants.{Refused as InputRefused, Memory as InputMemory}
-use Rattle.report.specs.Input.{Answer, FirstCut, HeadAnswer, InputAnswer, LibraryAnswer, Only, Passed, PlayAndLibrary, Refused, refused_at}
-use Rattle.report.specs.Results.{IfAnswered}
+use Rattle.report.specs.Input.{Answer, FirstCut, HeadAnswer, InputAnswer, LibraryAnswer, Only, PlayAndLibrary, refused_at}
+use Rattle.report.specs.Results.{HeadPassed, HeadRefused, IfAnswered}
 use Rattle.report.proofs.Libraries.{only_library}
 
 -- a text that is cut after its first line is not empty, and has a line feed
@@ -64,12 +64,12 @@ only_input = only_head ArithmeticAnswer 1 PlayAndLibrary only_arithmetic only_pl
 
 -- the answer to a head line and what follows it, from what comes after the head line alone
 module _ {Value : Type 0} (line_answer : List ℕ → Result Value PlayFault → Type 0) (place : ℕ) (after : List ℕ → Answer → Type 0) (says : List ℕ → Result Value PlayFault → Type 0) (text : List ℕ) where
-  pub head_refused : (placed : Placed PlayFault) → Refused says place text placed → ((line : List ℕ) (r : Result Value PlayFault) → says line r → line_answer (line ++ (10 ∷ [])) r) → HeadAnswer line_answer place after text (Err placed)
+  pub head_refused : (placed : Placed PlayFault) → HeadRefused says place text placed → ((line : List ℕ) (r : Result Value PlayFault) → says line r → line_answer (line ++ (10 ∷ [])) r) → HeadAnswer line_answer place after text (Err placed)
   head_refused placed refused means =
       ⊎_elim (λ h. inl (h.0, ap Err h.1))
       (⊎_elim (λ h. inr (inl (h.0, h.1, ap Err h.2))) (λ h. inr (inr (inl (h.0, h.1, h.2, h.3, means h.0 (Err h.2) h.4, ap Err h.5))))) refused.reason
 
-  pub head_passed : (rest : List ℕ) (answer : Answer) → Passed says text rest → ((line : List ℕ) (r : Result Value PlayFault) → says line r → line_answer (line ++ (10 ∷ [])) r) → after rest answer → HeadAnswer line_answer place after text answer
+  pub head_passed : (rest : List ℕ) (answer : Answer) → HeadPassed says text rest → ((line : List ℕ) (r : Result Value PlayFault) → says line r → line_answer (line ++ (10 ∷ [])) r) → after rest answer → HeadAnswer line_answer place after text answer
   head_passed rest answer h means next = inr (inr (inr (h.line, rest, h.value, h.cut, means h.line (Ok h.value) h.said, next)))
 
 -- what holds of the answer of a result

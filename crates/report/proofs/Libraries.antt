@@ -18,8 +18,8 @@ use Rattle.library.specs.Mounting.{FaultAt, Mounts}
 use Rattle.library.proofs.Lists.{nth_inside}
 use Rattle.library.proofs.Sorted.{good_at}
 use Rattle.library.proofs.Trials.{one_first}
-use Rattle.report.specs.Input.{Answer, LibraryAnswer, Only, TextMounts, in_input, most_rows}
-use Rattle.report.specs.Results.{NearRows}
+use Rattle.report.specs.Input.{Answer, LibraryAnswer, Only, in_input, most_rows}
+use Rattle.report.specs.Results.{NearRows, TextOutcome}
 
 -- a text is read as one list of rows
 read_once : (text : List ℕ) (c d : Counts) (rs ss : List Row) → Reads most_rows text (Ok c) rs → Reads most_rows text (Ok d) ss → (c ≡ d) × (rs ≡ ss)
@@ -46,7 +46,7 @@ mounts_or_refused : {A : Type 0} (rows : List Row) (p : Placed LibraryFault) →
 mounts_or_refused rows p h k = absurd (h k.0 p.fault k.2.holds)
 
 -- the text of a library has one first fault
-one_fault : (text : List ℕ) (p q : Placed LibraryFault) → TextMounts text (Err (MountRefused p)) → TextMounts text (Err (MountRefused q)) → p ≡ q
+one_fault : (text : List ℕ) (p q : Placed LibraryFault) → TextOutcome text (Err (MountRefused p)) → TextOutcome text (Err (MountRefused q)) → p ≡ q
 one_fault text p q (inl h) (inl k) =
     let same = (one_answer most_rows text (Err h.0) (Err k.0) h.1 k.1 h.2 k.2).0 in
     let one : h.0 ≡ k.0 = cc in
@@ -58,7 +58,7 @@ one_fault text p q (inr h) (inr k) =
     refused_once k.1 p q (subst (λ rows. Mounts rows (Err (MountRefused p))) same h.3) k.3
 
 -- the text of a library that mounts has no fault
-no_fault : {A : Type 0} (text : List ℕ) (counts : Counts) (p : Placed LibraryFault) → TextMounts text (Ok counts) → TextMounts text (Err (MountRefused p)) → A
+no_fault : {A : Type 0} (text : List ℕ) (counts : Counts) (p : Placed LibraryFault) → TextOutcome text (Ok counts) → TextOutcome text (Err (MountRefused p)) → A
 no_fault text counts p h (inl k) = read_or_refused text counts k.0 h.0 k.1 h.1 k.2
 no_fault text counts p h (inr k) =
     let same = (read_once text counts k.0 h.0 k.1 h.1 k.2).1 in
@@ -81,7 +81,7 @@ typing_fault rows i (Text fault) fine h = absurd (good_at rows fine i h.0 h.1 fa
 typing_fault rows i (Typing fault) fine h = (fault, refl)
 
 -- what mounting says of rows that were read, said of their text
-pub refused_by_mounting : (text : List ℕ) (counts : Counts) (filled rows old : List Row) (n : ℕ) (fault : MountFault) → Reads most_rows text (Ok counts) filled → rows ≡ filled ++ drop (length filled) old → n ≡ counts.types + counts.variables + counts.methods + counts.globals + counts.terms → Mounts (take n rows) (Err fault) → TextMounts text (Err fault) × NearRows fault
+pub refused_by_mounting : (text : List ℕ) (counts : Counts) (filled rows old : List Row) (n : ℕ) (fault : MountFault) → Reads most_rows text (Ok counts) filled → rows ≡ filled ++ drop (length filled) old → n ≡ counts.types + counts.variables + counts.methods + counts.globals + counts.terms → Mounts (take n rows) (Err fault) → TextOutcome text (Err fault) × NearRows fault
 refused_by_mounting text counts filled rows old n (MountRefused found) reads is total mounts =
     let told = subst (λ rs. Mounts rs (Err (MountRefused found))) (rows_first text counts filled rows old n reads is total) mounts in
     let inside = nth_inside filled told.0 told.2.holds.0 told.2.holds.1 in

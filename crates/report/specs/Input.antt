@@ -14,8 +14,7 @@ use Rattle.rows.specs.declared.forms.Row.{Row}
 use Rattle.rows.specs.declared.tally.Counts.{Counts}
 use Rattle.text.specs.Slots.{Lacks}
 use Rattle.reader.specs.Text.{Reads}
-use Rattle.library.specs.declared.refusal.MountFault.{MountFault}
-use Rattle.library.specs.declared.refusal.MountFault.TheVariants.{Refused as MountRefused, Memory as MountMemory}
+use Rattle.library.specs.declared.refusal.MountFault.TheVariants.{Refused as MountRefused}
 use Rattle.library.specs.Mounting.{Mounts}
 use Rattle.heads.specs.Arithmetics.{ArithmeticAnswer}
 use Rattle.heads.specs.Plays.{PlayAnswer}
@@ -53,36 +52,16 @@ RefusedByReading text found = (told : Placed TextFault) × (rows : List Row) × 
 abbrev pub RefusedByMounting : List ℕ → Placed LibraryFault → Type 0
 RefusedByMounting text found = (counts : Counts) × (rows : List Row) × Reads most_rows text (Ok counts) rows × Mounts rows (Err (MountRefused found)) × (told : TypingFault) × (found.fault ≡ Typing told)
 
--- what comes of a library's text by itself: the count of each section, where it is read as rows that mount; else the first
--- fault at its line in the library, of reading or, where it can be read, of mounting. Of want of memory nothing is said
-abbrev pub TextMounts : List ℕ → Result Counts MountFault → Type 0
-TextMounts text (Ok counts) = (rows : List Row) × Reads most_rows text (Ok counts) rows × Mounts rows (Ok tt)
-TextMounts text (Err (MountRefused found)) = RefusedByReading text found ⊎ RefusedByMounting text found
-TextMounts text (Err MountMemory) = Unit {0}
-
--- the answer to the library: its counts where it mounts, or its first fault at its line in the whole input
+-- the answer to the library: the count of each section, where its text is read as rows that mount; else its first fault, of
+-- reading or, where it can be read, of mounting, at its line in the whole input
 abbrev pub LibraryAnswer : List ℕ → Answer → Type 0
-LibraryAnswer text (Ok counts) = TextMounts text (Ok counts)
-LibraryAnswer text (Err placed) = (found : Placed LibraryFault) × TextMounts text (Err (MountRefused found)) × (placed ≡ in_input found)
+LibraryAnswer text (Ok counts) = (rows : List Row) × Reads most_rows text (Ok counts) rows × Mounts rows (Ok tt)
+LibraryAnswer text (Err placed) = (found : Placed LibraryFault) × (RefusedByReading text found ⊎ RefusedByMounting text found) × (placed ≡ in_input found)
 
 -- line is the first line of text without its line feed, and rest is what follows
 pub record FirstCut (text line rest : List ℕ) : Type 0 where
   pub parts : text ≡ line ++ (10 ∷ rest)
   pub one_line : Lacks 10 line
-
--- the reader of a head line takes it, where what it says of a line is given, and the rest is what follows it
-pub record Passed {Value : Type 0} (says : List ℕ → Result Value PlayFault → Type 0) (text rest : List ℕ) : Type 0 where
-  pub line : List ℕ
-  pub value : Value
-  pub cut : FirstCut text line rest
-  pub said : says line (Ok value)
-
--- not one byte of the line at this place is there, or it has no line feed, or its reader refuses it
-pub record Refused {Value : Type 0} (says : List ℕ → Result Value PlayFault → Type 0) (place : ℕ) (text : List ℕ) (placed : Placed PlayFault) : Type 0 where
-  pub reason :
-      ((text ≡ []) × (placed ≡ record { place = 0; fault = Text Form }))
-      ⊎ (((0 < length text) × Lacks 10 text × (placed ≡ record { place = place; fault = Text Form }))
-      ⊎ ((line : List ℕ) × (rest : List ℕ) × (fault : PlayFault) × FirstCut text line rest × says line (Err fault) × (placed ≡ record { place = place; fault = fault })))
 
 -- the answer to a head line and what follows it, where the line's own answer is given, and its place
 module _ {Value : Type 0} (line_answer : List ℕ → Result Value PlayFault → Type 0) (place : ℕ) (after : List ℕ → Answer → Type 0) where

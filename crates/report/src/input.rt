@@ -1,6 +1,6 @@
 //! The answer to a whole input: the two head lines, then the library.
-ghost use Rattle.report.specs.Input.{InputAnswer, LibraryAnswer, Passed, Refused, TextMounts, most_rows};
-ghost use Rattle.report.specs.Results.{IfAnswered, NearRows, fault_in_input};
+ghost use Rattle.report.specs.Input.{InputAnswer, LibraryAnswer, most_rows};
+ghost use Rattle.report.specs.Results.{HeadPassed, HeadRefused, IfAnswered, NearRows, TextOutcome, fault_in_input};
 ghost use Rattle.std.specs.Fn.{FnOnceReturnsAt};
 ghost use Rattle.std.specs.Prelude.{◌≡◌, ℕ, ◌+◌, ◌≤◌, List, IfErr, MatchResult, length};
 
@@ -45,9 +45,9 @@ fn row_count(counts: Counts) -> usize
 }
 
 // Reads the text of a library and mounts its rows.
-fn mounted(heap: Global, text: &[u8], rows: &mut [Row]) -> Result<Counts, MountFault>
+fn read_and_mount(heap: Global, text: &[u8], rows: &mut [Row]) -> Result<Counts, MountFault>
     requires enough_rows { length rows.old ≡ most_rows }
-    ensures counts_or_first_fault { TextMounts text.now result }
+    ensures counts_or_first_fault { TextOutcome text.now result }
     ensures near_rows { IfErr result NearRows }
 {
     let counts = read(text, rows).map_err(|found| MountFault::Refused(found.into()))?;
@@ -61,7 +61,7 @@ fn library_answer(heap: Global, text: &[u8], rows: &mut [Row]) -> Result<Counts,
     requires enough_rows { length rows.old ≡ most_rows }
     ensures answer { IfAnswered result (LibraryAnswer text.now) }
 {
-    mounted(heap, text, rows).map_err(in_whole_input)
+    read_and_mount(heap, text, rows).map_err(in_whole_input)
 }
 
 // The text after a head line that its reader takes.
@@ -71,7 +71,7 @@ fn after_head<T: Drop, F: FnOnce(&[u8]) -> Result<T, PlayFault>>(
     line_reader: F,
 ) -> Result<&[u8], Placed<PlayFault>>
     requires callable { F.IsAlwaysCallable line_reader }
-    ensures rest_or_fault { MatchResult result (λ rest. Passed (FnOnceReturnsAt F.FnOnce line_reader) text.now rest.now) (Refused (FnOnceReturnsAt F.FnOnce line_reader) place text.now) }
+    ensures rest_or_fault { MatchResult result (λ rest. HeadPassed (FnOnceReturnsAt F.FnOnce line_reader) text.now rest.now) (HeadRefused (FnOnceReturnsAt F.FnOnce line_reader) place text.now) }
 {
     let formless = PlayFault::Text(TextFault::Form);
     if text.is_empty() {

@@ -2,7 +2,7 @@ use Rattle.std.proofs.Common.{◌≡◌, Ok, length, rules, subst}
 use Rattle.std.proofs.lemmas.Result.{err_from_is_err_and}
 use Rattle.reader.specs.Text.{Reads}
 use Rattle.report.proofs.Libraries.{refused_by_mounting}
-use Rattle.report.proofs.input.mounted.Goals as goal
+use Rattle.report.proofs.input.read_and_mount.Goals as goal
 
 pub returns-in_err-mount : goal.returns-in_err-mount
 returns-in_err-mount c =
