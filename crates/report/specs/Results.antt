@@ -37,7 +37,7 @@ TextOutcome text (Ok counts) = (rows : List Row) × Reads most_rows text (Ok cou
 TextOutcome text (Err (MountRefused found)) = RefusedByReading text found ⊎ RefusedByMounting text found
 TextOutcome text (Err MountMemory) = Unit {0}
 
--- a fault of a library stands at one of its rows, or at the line after the last
+-- a fault of a library stands at 0, at one of its rows, or at the line after the last
 abbrev pub NearRows : MountFault → Type 0
 NearRows (MountRefused found) = found.place ≤ most_rows + 1
 NearRows MountMemory = Unit {0}

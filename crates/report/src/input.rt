@@ -13,6 +13,9 @@ use rows::{Counts, Row};
 use std::alloc::Global;
 use text::first_line;
 
+// The most rows that a library may have: the limits of all sections together.
+const MOST_ROWS: usize = 1232;
+
 // The fault of a library with its line in the whole input: two lines come before it, and 0 stays 0. It is no `From`, since it
 // moves the line.
 fn in_whole_input(fault: MountFault) -> InputFault
@@ -56,7 +59,7 @@ fn read_and_mount(heap: Global, text: &[u8], rows: &mut [Row]) -> Result<Counts,
     Ok(counts)
 }
 
-// The answer to a library.
+// The answer to a library, over rows enough for every one.
 fn library_answer(heap: Global, text: &[u8], rows: &mut [Row]) -> Result<Counts, InputFault>
     requires enough_rows { length rows.old ≡ most_rows }
     ensures answer { IfAnswered result (LibraryAnswer text.now) }
@@ -88,12 +91,12 @@ fn after_head<T: Drop, F: FnOnce(&[u8]) -> Result<T, PlayFault>>(
     Ok(rest)
 }
 
-// The answer to a whole input, over rows enough for every library.
-pub(crate) fn answer(heap: Global, input: &[u8], rows: &mut [Row]) -> Result<Counts, InputFault>
-    requires enough_rows { length rows.old ≡ most_rows }
+// The answer to a whole input.
+pub(crate) fn answer(heap: Global, input: &[u8]) -> Result<Counts, InputFault>
     ensures answer { IfAnswered result (InputAnswer input.now) }
 {
     let rest = after_head(input, 1, arithmetic_line)?;
     let library = after_head(rest, 2, play_line)?;
-    library_answer(heap, library, rows)
+    let mut rows = vec![in heap; Row::Variable(0, 0); MOST_ROWS]?;
+    library_answer(heap, library, &mut rows)
 }

@@ -7,15 +7,11 @@ ghost use Rattle.std.specs.Prelude.{◌≡◌, IfOk, string_bytes};
 
 use crate::refusal::InputFault;
 use crate::reply::Reply;
-use rows::Row;
 use std::alloc::{AllocError, Global};
 
 mod input;
 mod refusal;
 mod reply;
-
-/// The most rows that a library may have: the limits of all sections together.
-const MOST_ROWS: usize = 1232;
 
 /// The line to print for an input of two head lines and a library: how many rows of each section were read and mounted, or
 /// the number of the first fault with its line in the whole input. Fails only for want of memory.
@@ -23,8 +19,7 @@ pub fn report(heap: Global, input: &[u8]) -> Result<String, AllocError>
     ensures line_of_the_answer { IfOk result (λ line. (answer : Answer) × InputAnswer input.now answer × (string_bytes line ≡ answer_line answer)) }
     ensures of_every_answer { IfOk result (λ line. (answer : Answer) → InputAnswer input.now answer → string_bytes line ≡ answer_line answer) }
 {
-    let mut rows = vec![in heap; Row::Variable(0, 0); MOST_ROWS]?;
-    let answer = match input::answer(heap, input, &mut rows) {
+    let answer = match input::answer(heap, input) {
         Ok(counts) => Ok(counts),
         Err(InputFault::Refused(placed)) => Err(placed),
         Err(InputFault::Memory) => return Err(AllocError),

@@ -3,6 +3,7 @@ ghost use Rattle.report.specs.declared.refusal.InputFault.TheVariants.{Refused, 
 ghost use Rattle.std.specs.Prelude.{◌≡◌};
 
 use faults::{Placed, PlayFault};
+use std::alloc::AllocError;
 
 /// An input is refused for a fault at a line, or memory has run out.
 #[derive(Clone, Copy)]
@@ -19,5 +20,14 @@ impl From<Placed<PlayFault>> for InputFault {
     /// An input is refused for its first fault.
     fn from(placed: Placed<PlayFault>) -> InputFault {
         InputFault::Refused(placed)
+    }
+}
+
+impl From<AllocError> for InputFault {
+    ghost from_gives = { λ _ fault. fault ≡ Memory };
+
+    /// What could not be allocated has run out of memory.
+    fn from(_failed: AllocError) -> InputFault {
+        InputFault::Memory
     }
 }
