@@ -12,7 +12,7 @@ use Rattle.std.proofs.lemmas.Str.Parse.{IsNumeralModel, numerals_by_fold, not_in
 use Rattle.std.proofs.lemmas.Bool.{eqb-true, eqb-false, ne_eqb, leb-true, le-leb, ltb-true, lt-ltb, and_parts, and_from, cond-false}
 use Rattle.text.specs.Slots
 use Rattle.text.specs.Slots.{Slot, written, InRange, Lacks, Free, commas, line_of}
-use Rattle.text.specs.Reading.{in_front, cut, given, read_on, number_of, signed_value, word_of, keyword_of, all_three, three_numbers}
+use Rattle.text.specs.Reading.{in_front, cut, given, read_on, number_of, signed_value, word_of, keyword_of, both, all_three, one_number, two_numbers, three_numbers}
 
 -- a byte in front of the fields is a byte in front of their line
 commas_in_front : (t : Bool) (b : ℕ) (fs : List (List ℕ)) → (t ≡ true → b ≡ 44) → 0 < length fs → commas (in_front t b fs) ≡ b ∷ commas fs
@@ -187,6 +187,9 @@ written_free (Slots.word (negsuc n)) range free =
     let small : suc n < 2 ^ 64 = omega (arith, range.sfits) in
     (((λ e. omega arith), decimal_lacks 44 (suc n) small (λ d. omega arith)), ((λ e. omega arith), decimal_lacks 10 (suc n) small (λ d. omega arith)))
 
+both_says : (x y : Option ℕ) (a b : ℕ) → both x y ≡ Some (a, b) → (x ≡ Some a) × (y ≡ Some b)
+both_says x y a b e = grind arith
+
 three_says : (x y z : Option ℕ) (a b c : ℕ) → all_three x y z ≡ Some (a, b, c) → (x ≡ Some a) × (y ≡ Some b) × (z ≡ Some c)
 three_says None y z a b c e = cc
 three_says (Some p) None z a b c e = cc
@@ -194,6 +197,23 @@ three_says (Some p) (Some q) None a b c e = cc
 three_says (Some p) (Some q) (Some r) a b c e =
     let d : ◌≡◌ {A = ℕ × ℕ × ℕ} (p, q, r) (a, b, c) = cc in
     (ap (λ (t : ℕ × ℕ × ℕ). Some t.0) d, ap (λ (t : ℕ × ℕ × ℕ). Some t.1) d, ap (λ (t : ℕ × ℕ × ℕ). Some t.2) d)
+
+-- the one number that is read is in range, and its decimal is the one field
+pub one_exact : (fs : List (List ℕ)) (a : ℕ) → one_number fs ≡ Some a → (fs ≡ decimal a ∷ []) × (a ≤ 65535)
+one_exact [] a e = cc
+one_exact (f ∷ []) a e = let x = number_exact f a e in (rw x.1 refl, x.0)
+one_exact (f ∷ g ∷ fs) a e = cc
+
+-- the two numbers that are read are in range, and their decimals are the two fields
+pub two_exact : (fs : List (List ℕ)) (a b : ℕ) → two_numbers fs ≡ Some (a, b) → (fs ≡ decimal a ∷ decimal b ∷ []) × (a ≤ 65535) × (b ≤ 65535)
+two_exact [] a b e = cc
+two_exact (f ∷ []) a b e = cc
+two_exact (f ∷ g ∷ []) a b e =
+    let p = both_says (number_of f) (number_of g) a b e in
+    let x = number_exact f a p.0 in
+    let y = number_exact g b p.1 in
+    (rw (x.1, y.1) refl, x.0, y.0)
+two_exact (f ∷ g ∷ h ∷ fs) a b e = cc
 
 -- three numbers in range are read from their decimals
 pub three_written : (a b c : ℕ) → a ≤ 65535 → b ≤ 65535 → c ≤ 65535 → three_numbers (decimal a ∷ decimal b ∷ decimal c ∷ []) ≡ Some (a, b, c)
