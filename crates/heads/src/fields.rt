@@ -9,7 +9,6 @@ ghost use Rattle.std.specs.Prelude.{◌≡◌, MatchOption};
 use text::{Fields, first_line, spells};
 
 // The fields of a line; none where a line feed stands in it.
-#[tactic(auto, using(crate::proofs::Lines::has_feed))]
 pub(crate) fn line_fields(line: &[u8]) -> Option<Fields<'_>>
     ensures fields_of_one_line { MatchOption result (Lacks 10 line.now → ⊥) (λ fields. Lacks 10 line.now × (remaining fields ≡ cut line.now)) }
 {
