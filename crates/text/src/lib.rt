@@ -199,7 +199,11 @@ fn first_field(bytes: &[u8]) -> (&[u8], Option<&[u8]>)
 fn field_count(bytes: &[u8]) -> usize
     ensures number_of_fields { result ≡ length (cut bytes.now) }
 {
-    bytes.iter().filter(|byte| **byte == b',').count() + 1
+    bytes
+        .iter()
+        .map(|byte| usize::from(*byte == b','))
+        .sum::<usize>()
+        + 1
 }
 
 /// The fields of a line that are still to be read.
