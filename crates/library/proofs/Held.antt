@@ -26,9 +26,6 @@ use Rattle.rows.specs.Tallies.{CountsOf, leaves_at}
 use Rattle.rows.specs.Types.{leaves}
 use Rattle.rows.proofs.Admits.{types_count}
 use Rattle.rows.specs.Sections.{count}
-use Rattle.std.proofs.lemmas.List.{length-map}
-use Rattle.library.specs.declared.facts.TermFacts.{TermFacts}
-use Rattle.library.specs.Facts.{type_numbers}
 use Rattle.library.specs.Definitions.{ClosedFunction, FunctionType, GlobalRule, MethodRule, SoundDefinitions}
 use Rattle.library.specs.Inference.{LeavesBy, TypedBy, is_int}
 use Rattle.library.specs.Judging.{is_function, is_lam, is_num}
@@ -45,8 +42,8 @@ pub faultless_of : (rows : List Row) → WellTyped rows → Faultless rows
 faultless_of rows fine i row lt is fault h = fine i (Text fault) (row, slice_get-get_or rows i row lt ∙ ap Some is, h)
 
 -- as many numbers as terms
-pub as_many : (rows : List Row) (known : List TermFacts) (n : ℕ) → n ≡ length known → n ≡ count Terms rows → length (type_numbers known) ≡ length (section_rows Terms rows)
-as_many rows known n e f = length-map known _ ∙ sym e ∙ f ∙ count_length Terms rows
+pub as_many : (rows : List Row) (known : List ℕ) (n : ℕ) → n ≡ length known → n ≡ count Terms rows → length known ≡ length (section_rows Terms rows)
+as_many rows known n e f = sym e ∙ f ∙ count_length Terms rows
 
 -- the leaves of a type, read from the table
 pub leaves_told : (rows : List Row) (c : Counts) (table : List ℕ) → CountsOf rows c → LeavesBy rows table → (n : ℕ) → leaves_at c table n ≡ option_map leaves (slice_get (types rows) n)

@@ -1,7 +1,6 @@
 //! What a library tells of its rows.
 ghost use Rattle.std.specs.Prelude.{◌≡◌, ℕ, Some, None, Option, MatchOption};
 ghost use Rattle.library.specs.Definitions.{SoundDefinitions};
-ghost use Rattle.library.specs.Facts.{type_numbers};
 ghost use Rattle.library.specs.Held.{library_rows};
 ghost use Rattle.library.specs.Listing.{global_term_at, global_type_at, method_at, method_type_at, term_at, type_form_at, variable_type_at};
 ghost use Rattle.library.specs.Mounting.{WellTyped};
@@ -11,7 +10,6 @@ ghost use Rattle.rows.specs.Types.{Tree, leaves, types};
 ghost use Rattle.std.specs.List.{slice_get};
 ghost use Rattle.std.specs.Option.{option_map};
 
-use super::facts::KnownTerms;
 use super::library::Library;
 use super::listing::Listing;
 use rows::{Counts, MethodForm, Row, Tally, TermForm, TypeForm};
@@ -29,14 +27,11 @@ impl Library {
         }
     }
 
-    // The rows, with what is found of all terms.
-    fn known_terms(&self) -> KnownTerms
-        ensures types_of_terms { (t : ℕ) (n : Option ℕ) → n ≡ slice_get (type_numbers result.facts.now) t → MatchOption n (term_at (library_rows self.now) t ≡ None) (λ k. (type : Tree) × (slice_get (types (library_rows self.now)) k ≡ Some type) × HasType (library_rows self.now) t type) }
+    // The numbers of the types of all terms.
+    fn types(&self) -> &[u32]
+        ensures types_of_terms { (t : ℕ) (n : Option ℕ) → n ≡ slice_get result.now t → MatchOption n (term_at (library_rows self.now) t ≡ None) (λ k. (type : Tree) × (slice_get (types (library_rows self.now)) k ≡ Some type) × HasType (library_rows self.now) t type) }
     {
-        KnownTerms {
-            listing: self.listing(),
-            facts: &self.term_facts,
-        }
+        &self.term_types
     }
 
     /// The rows of the library. They are well-formed and well-typed, its methods are closed functions of their declared
@@ -125,6 +120,6 @@ impl Library {
     pub fn term_type(&self, number: u32) -> Option<u32>
         ensures type_of_term { MatchOption result (term_at (library_rows self.now) number ≡ None) (λ n. (type : Tree) × (slice_get (types (library_rows self.now)) n ≡ Some type) × HasType (library_rows self.now) number type) }
     {
-        self.known_terms().type_number(number)
+        self.types().get(number as usize).copied()
     }
 }

@@ -1,5 +1,5 @@
 //! What is found of terms, in their order.
-ghost use Rattle.std.specs.Prelude.{◌≡◌, length, Err, MatchResult};
+ghost use Rattle.std.specs.Prelude.{◌≡◌, length, Err, MatchResult, IfOk};
 ghost use Rattle.library.specs.Facts.{free_sets, type_numbers};
 ghost use Rattle.library.specs.Inference.{TypedBy};
 ghost use Rattle.library.specs.Listing.{section_rows};
@@ -14,7 +14,7 @@ use super::listing::Listing;
 use super::refusal::{MountFault, fault_of_row};
 use super::variables::VariableSet;
 use rows::Row;
-use std::alloc::Global;
+use std::alloc::{AllocError, Global};
 
 // The number of a term's type, and the term's free variables.
 #[derive(Clone, Copy)]
@@ -38,6 +38,16 @@ impl KnownTerms<'_, '_> {
     {
         // With `copied()` in place of the `?` no proof of the two clauses was found.
         Some(*self.facts.get(term as usize)?)
+    }
+
+    // The numbers of the types of all terms that are known.
+    pub(crate) fn type_numbers(self, heap: Global) -> Result<Vec<u32>, AllocError>
+        ensures numbers { IfOk result (λ types. types.items ≡ type_numbers self.entry.facts.now) }
+    {
+        self.facts
+            .iter()
+            .map(|facts| facts.type_number)
+            .collect(heap)
     }
 }
 

@@ -14,7 +14,7 @@ use rows::{TermForm, TypeForm};
 
 impl KnownTerms<'_, '_> {
     // The number of the type of an earlier term.
-    pub(crate) fn type_number(self, term: u32) -> Option<u32>
+    fn type_number(self, term: u32) -> Option<u32>
         ensures known_type { result ≡ slice_get (type_numbers self.entry.facts.now) term }
     {
         self.facts_of(term).map(|facts| facts.type_number)

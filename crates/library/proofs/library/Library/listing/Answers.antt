@@ -1,5 +1,4 @@
 use Rattle.std.proofs.Common.{vec_items, sym, subst}
-use Rattle.library.specs.Facts.{type_numbers}
 use Rattle.library.specs.Inference.{Sectioned}
 use Rattle.library.proofs.Held.{as_many, faultless_of, sound_definitions}
 use Rattle.library.proofs.Sorted.{sectioned}
@@ -16,8 +15,8 @@ pub returns : goal.returns
 returns c =
     let l = c.args.self.now in
     let rows = vec_items l.rows in
-    let known = type_numbers (vec_items l.term_facts) in
-    let long = as_many rows (vec_items l.term_facts) _ l.term_facts.ok.0 l.all_typed in
+    let known = vec_items l.term_types in
+    let long = as_many rows known _ l.term_types.ok.0 l.all_typed in
     record {
       same_rows = c.deref.ensures.value;
       well_typed = l.well_typed;
