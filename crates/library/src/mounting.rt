@@ -42,6 +42,7 @@ impl Listing<'_> {
 // Makes a library of rows.
 fn drafted(heap: Global, rows: &[Row]) -> Result<Library, MountFault>
     ensures library_or_first_fault { MatchResult result (λ library. (library_rows library ≡ rows.now) × Answered rows.now (Ok tt) × SoundDefinitions rows.now) (λ fault. Answered rows.now (Err fault)) }
+    ensures one_type_each { OneType }
 {
     let tally = admit_all(rows)?;
     let listing = Listing {
@@ -70,7 +71,6 @@ impl Library {
 
     /// Puts a library of these rows in the place of this one, where they are well-formed and well-typed. Rows with a fault
     /// are refused for the first one, at its line, and the old library stays, as it does where memory runs out.
-    #[tactic(auto, using(crate::proofs::Unique::one_type))]
     pub fn mount(&mut self, rows: &[Row]) -> Result<(), MountFault>
         ensures answer { Mounts rows.now result }
         ensures no_other_answer { (answer : Result (Unit {0}) MountFault) → Mounts rows.now answer → (answer ≢ Err Memory) → (result ≢ Err Memory) → answer ≡ result }

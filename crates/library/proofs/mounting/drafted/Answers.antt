@@ -6,6 +6,7 @@ use Rattle.library.specs.Inference.{LeavesBy, Sectioned, TypedBy}
 use Rattle.library.specs.Mounting.{WellTyped}
 use Rattle.library.proofs.Sorted.{count_length, sectioned}
 use Rattle.library.proofs.Trials.{answered, answered_exit}
+use Rattle.library.proofs.Unique.{one_type}
 use Rattle.library.proofs.mounting.drafted.Goals as goal
 
 pub invariant_of-listing : goal.invariant_of-listing
@@ -29,11 +30,14 @@ invariant_of-result c =
 pub returns : goal.returns
 returns c =
     let types = c.in_ok-term_types.ensures.types_or_first_fault in
-    record { library_or_first_fault = (c.in_ok-to_vec.ensures.items_if_clones_equal (λ x y e. e), answered c.args.rows.now (Ok tt) types.2, types.3) }
+    record { library_or_first_fault = (c.in_ok-to_vec.ensures.items_if_clones_equal (λ x y e. e), answered c.args.rows.now (Ok tt) types.2, types.3); one_type_each = one_type }
 
 pub returns-in_err-tally : goal.returns-in_err-tally
-returns-in_err-tally c = record { library_or_first_fault = answered_exit c.args.rows.now _ _ _ c.from_residual.ensures.1 c.in_err-tally.ensures.tally_or_first_fault }
+returns-in_err-tally c = record { library_or_first_fault = answered_exit c.args.rows.now _ _ _ c.from_residual.ensures.1 c.in_err-tally.ensures.tally_or_first_fault; one_type_each = one_type }
 
 pub returns-in_err-term_types : goal.returns-in_err-term_types
 returns-in_err-term_types c =
-    record { library_or_first_fault = answered_exit c.args.rows.now _ _ _ c.from_residual-in_err-term_types.ensures.1 c.in_err-term_types.ensures.types_or_first_fault }
+    record { library_or_first_fault = answered_exit c.args.rows.now _ _ _ c.from_residual-in_err-term_types.ensures.1 c.in_err-term_types.ensures.types_or_first_fault; one_type_each = one_type }
+
+pub returns-in_err-to_vec-clause-one_type_each : goal.returns-in_err-to_vec-clause-one_type_each
+returns-in_err-to_vec-clause-one_type_each c = one_type
