@@ -11,8 +11,8 @@ use Rattle.arithmetic.specs.declared.kinds.Word.{Word as WordArithmetic}
 use Rattle.arithmetic.specs.declared.kinds.Counter.{Counter as CounterArithmetic}
 use Rattle.arithmetic.specs.Settings.{host_range, word_settings, counter_settings}
 use Rattle.text.specs.Slots.{Slot, literal, number, word, written, InRange, Free, Fits}
-use Rattle.text.specs.Reading.{keyword_of, number_of, word_of, both, all_three}
-use Rattle.text.proofs.Laws.{number_written, number_exact, word_written, word_exact, keyword_found}
+use Rattle.text.specs.Reading.{keyword_of, number_of, word_of, all_three}
+use Rattle.text.proofs.Laws.{both_says, number_written, number_exact, word_written, word_exact, keyword_found}
 use Rattle.heads.specs.declared.keywords.KindWord.{KindWord}
 use Rattle.heads.specs.declared.keywords.KindWord.TheVariants.{Word as WordKind, Counter as CounterKind}
 use Rattle.heads.specs.declared.settings.Kind.{Kind}
@@ -34,9 +34,6 @@ settings_written (WordNumbers lo hi) h = rw (word_written lo h.1.1.0, word_writt
 settings_written (CounterNumbers top lo hi) h = rw (number_written top h.1.1.0, word_written lo h.1.1.1.0, word_written hi h.1.1.1.1.0)
 
 -- values that are all read are each read
-both_say : {A B : Type 0} (x : Option A) (y : Option B) (p : A × B) → both x y ≡ Some p → (x ≡ Some p.0) × (y ≡ Some p.1)
-both_say x y p e = grind arith
-
 all_say : {A B C : Type 0} (x : Option A) (y : Option B) (z : Option C) (p : A × B × C) → all_three x y z ≡ Some p → (x ≡ Some p.0) × (y ≡ Some p.1) × (z ≡ Some p.2)
 all_say x y z p e = grind arith
 
@@ -45,7 +42,7 @@ words_exact : (fs : List (List ℕ)) (p : ℤ × ℤ) → two_words fs ≡ Some 
 words_exact [] p e = cc
 words_exact (f ∷ []) p e = cc
 words_exact (f ∷ g ∷ []) p e =
-    let q = both_say (word_of f) (word_of g) p e in
+    let q = both_says (word_of f) (word_of g) p.0 p.1 e in
     let x = word_exact f p.0 q.0 in
     let y = word_exact g p.1 q.1 in
     (rw (x.1, y.1) refl, x.0, y.0)

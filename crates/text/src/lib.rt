@@ -195,6 +195,7 @@ fn first_field(bytes: &[u8]) -> (&[u8], Option<&[u8]>)
     }
 }
 
+// A sum: `filter` and `count` branch at each comma, and take twice as long where commas stand at random.
 /// How many fields the bytes have.
 fn field_count(bytes: &[u8]) -> usize
     ensures number_of_fields { result ≡ length (cut bytes.now) }
